@@ -1,0 +1,5 @@
+pub mod Cases
+pub mod Selections
+pub mod Totals
+pub mod Prices
+pub mod First

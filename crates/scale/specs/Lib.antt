@@ -1,0 +1,4 @@
+pub mod Meaning
+pub mod Single
+pub mod Pair
+pub mod Levels
