@@ -12,13 +12,16 @@ use lib.IntN.{ℤ, pos, negsuc}
 use lib.ListN.{length}
 use lib.Signed.{leZ}
 use Rattle.std.specs.shelf.Lists.{All}
-use Rattle.market.specs.declared.book.Border.{Border}
-use Rattle.market.specs.declared.book.Bid.{Bid}
+use Rattle.market.specs.declared.trade.Border.{Border}
+use Rattle.market.specs.declared.trade.Bid.{Bid}
 
 pub record Case : Type 0 where
   pub demands : List ℤ
   pub borders : List Border
   pub bids : List Bid
+
+abbrev pub case-of : List ℤ → List Border → List Bid → Case
+case-of demands borders bids = record { demands = demands; borders = borders; bids = bids }
 
 abbrev pub areas : Case → ℕ
 areas c = length (c .demands)

@@ -3,3 +3,4 @@ pub mod Selections
 pub mod Totals
 pub mod Prices
 pub mod First
+pub mod Refusals

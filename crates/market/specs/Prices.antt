@@ -14,10 +14,10 @@ use lib.IntN.{ℤ, pos, negsuc, negℤ, natAbs}
 use lib.ListN.{length, getD}
 use lib.Signed.{ltZ}
 use Rattle.scale.specs.Meaning.{Meaning}
-use Rattle.market.specs.declared.book.Direction.{Direction}
-use Rattle.market.specs.declared.book.Direction.the-variants.{Up, Down}
-use Rattle.market.specs.declared.book.Border.{Border}
-use Rattle.market.specs.declared.book.Bid.{Bid}
+use Rattle.market.specs.declared.trade.Direction.{Direction}
+use Rattle.market.specs.declared.trade.Direction.the-variants.{Up, Down}
+use Rattle.market.specs.declared.trade.Border.{Border}
+use Rattle.market.specs.declared.trade.Bid.{Bid}
 use Rattle.market.specs.Cases.{Case, areas}
 use Rattle.market.specs.Selections.{Selection}
 use Rattle.market.specs.Totals.{bid-cost}

@@ -15,10 +15,10 @@ use lib.IntN.{ℤ, pos, _+ℤ_, negℤ}
 use lib.ListN.{length, getD}
 use lib.Signed.{leZ}
 use Rattle.std.specs.Numbers.{maxZ, minZ}
-use Rattle.market.specs.declared.book.Direction.{Direction}
-use Rattle.market.specs.declared.book.Direction.the-variants.{Up, Down}
-use Rattle.market.specs.declared.book.Border.{Border}
-use Rattle.market.specs.declared.book.Bid.{Bid}
+use Rattle.market.specs.declared.trade.Direction.{Direction}
+use Rattle.market.specs.declared.trade.Direction.the-variants.{Up, Down}
+use Rattle.market.specs.declared.trade.Border.{Border}
+use Rattle.market.specs.declared.trade.Bid.{Bid}
 use Rattle.market.specs.Cases.{Case, areas}
 
 pub record Selection : Type 0 where

@@ -12,9 +12,9 @@ use Prim.Native.Nat.{ℕ, zero, suc}
 use lib.Dec.{T}
 use lib.IntN.{ℤ, natAbs}
 use Rattle.scale.specs.Meaning.{Meaning}
-use Rattle.market.specs.declared.book.Direction.{Direction}
-use Rattle.market.specs.declared.book.Direction.the-variants.{Up, Down}
-use Rattle.market.specs.declared.book.Bid.{Bid}
+use Rattle.market.specs.declared.trade.Direction.{Direction}
+use Rattle.market.specs.declared.trade.Direction.the-variants.{Up, Down}
+use Rattle.market.specs.declared.trade.Bid.{Bid}
 use Rattle.market.specs.Cases.{Case}
 use Rattle.market.specs.Selections.{Selection, WithinLimits}
 

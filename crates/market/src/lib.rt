@@ -1,6 +1,15 @@
-// The words of the trade: areas, borders, bids, and why a call is refused.
+// The words of the trade: areas, borders, bids, the book of a case, the amounts of a selection, and why a call is refused.
 mod book;
+mod question;
+mod refusal;
+mod trade;
 
-pub use book::Bid;
-pub use book::Border;
-pub use book::Direction;
+pub use book::Amounts;
+pub use book::Book;
+pub use question::Question;
+pub use question::ask;
+pub use question::first_no;
+pub use refusal::Refusal;
+pub use trade::Bid;
+pub use trade::Border;
+pub use trade::Direction;
