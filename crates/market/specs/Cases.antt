@@ -1,6 +1,8 @@
 -- A case, and the bounds and ranges that it keeps.
 --
 --   Case            the areas' demands, the borders and the bids, each numbered from 0 by its place
+--   demand-at, border-at, bid-at
+--                   the record at a place
 --   demand-in-range, ends-known, limits-in-range, bid-known, bid-in-range
 --                   what each record owes, as tests
 --   Valid           the case is within its bounds, and every record keeps its range
@@ -9,11 +11,12 @@ use mathlib.Core.List.{List}
 use Prim.Native.Nat.{ℕ, _<_, _≤_}
 use lib.Dec.{T, leb, ltb, eqb}
 use lib.IntN.{ℤ, pos, negsuc}
-use lib.ListN.{length}
+use lib.ListN.{length, getD}
 use lib.Signed.{leZ}
 use Rattle.std.specs.shelf.Lists.{All}
 use Rattle.market.specs.declared.trade.Border.{Border}
 use Rattle.market.specs.declared.trade.Bid.{Bid}
+use Rattle.market.specs.declared.trade.Direction.the-variants.{Up}
 
 pub record Case : Type 0 where
   pub demands : List ℤ
@@ -22,6 +25,22 @@ pub record Case : Type 0 where
 
 abbrev pub case-of : List ℤ → List Border → List Bid → Case
 case-of demands borders bids = record { demands = demands; borders = borders; bids = bids }
+
+-- what stands where there is no record
+abbrev pub no-border : Border
+no-border = record { from = 0; to = 0; forward = 0; backward = 0 }
+
+abbrev pub no-bid : Bid
+no-bid = record { area = 0; direction = Up; volume = 0; price = pos 0 }
+
+abbrev pub demand-at : Case → ℕ → ℤ
+demand-at c k = getD (c .demands) k (pos 0)
+
+abbrev pub border-at : Case → ℕ → Border
+border-at c k = getD (c .borders) k no-border
+
+abbrev pub bid-at : Case → ℕ → Bid
+bid-at c k = getD (c .bids) k no-bid
 
 abbrev pub areas : Case → ℕ
 areas c = length (c .demands)

@@ -1,0 +1,4 @@
+// Cases and proposals as bytes.
+mod proposal;
+
+pub use proposal::Counts;
