@@ -1,0 +1,3 @@
+// The fitting test: are the amounts allowed, do the areas balance, do the prices fit?
+mod amounts;
+mod prices;

@@ -1,0 +1,4 @@
+// The listing of what stands.
+pub fn heading_bytes() -> usize {
+    48
+}
