@@ -14,10 +14,11 @@ pub fn read_level(bytes: &[u8], most: u32) -> Option<i64>
         return None;
     };
     let level = i64::from_le_bytes([*a, *b, *c, *d, *e, *f, *g, *h]);
-    if level < -(most as i64) || level > most as i64 {
-        return None;
+    if -(most as i64) <= level && level <= most as i64 {
+        Some(level)
+    } else {
+        None
     }
-    Some(level)
 }
 
 // How two whole numbers stand to each other.

@@ -68,9 +68,6 @@ pub impl<A: Scale, B: Scale> Scale for Pair<A, B> as PairScale {
     }
 
     fn compare(first: Self::Figure, second: Self::Figure) -> Ordering {
-        match A::compare(first.0, second.0) {
-            Ordering::Equal => B::compare(first.1, second.1),
-            decided => decided,
-        }
+        A::compare(first.0, second.0).then(B::compare(first.1, second.1))
     }
 }

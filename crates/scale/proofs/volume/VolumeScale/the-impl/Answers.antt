@@ -2,7 +2,7 @@ use mathlib.Core.Bool.{true}
 use lib.Dec.{lit≤, lit<}
 use lib.IntN.{pos}
 use Rattle.scale.proofs.Singles.{within, single-laws}
-use Rattle.scale.proofs.single.VolumeScale.the-impl.Needs as need
+use Rattle.scale.proofs.volume.VolumeScale.the-impl.Needs as need
 
 pub lawful-law : need.lawful-law
 lawful-law =

@@ -5,7 +5,7 @@ use lib.IntN.{ℤ, pos, negℤ}
 use Rattle.std.proofs.shelf.Signed.{ints}
 use Rattle.scale.specs.Meaning.{BidPrice}
 use Rattle.scale.proofs.Singles.{Within, within, single-laws}
-use Rattle.scale.proofs.single.MoneyScale.the-impl.Needs as need
+use Rattle.scale.proofs.money.MoneyScale.the-impl.Needs as need
 
 opposite : (p : ℤ) → BidPrice p → Within 9999900 (negℤ p)
 opposite p h = record { least = omega (arith, ints); most = omega (arith, ints) }

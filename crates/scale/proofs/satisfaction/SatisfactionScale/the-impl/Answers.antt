@@ -2,7 +2,7 @@ use mathlib.Core.Bool.{false}
 use lib.Dec.{lit≤, lit<}
 use lib.IntN.{pos, negsuc}
 use Rattle.scale.proofs.Singles.{within, single-laws}
-use Rattle.scale.proofs.single.SatisfactionScale.the-impl.Needs as need
+use Rattle.scale.proofs.satisfaction.SatisfactionScale.the-impl.Needs as need
 
 pub lawful-law : need.lawful-law
 lawful-law =
