@@ -1,4 +1,4 @@
 pub mod Singles
 pub mod Pairs
 pub mod Bytes
-mod Tests
+mod Both

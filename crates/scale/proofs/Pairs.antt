@@ -21,7 +21,7 @@ use Rattle.scale.specs.Meaning.{Meaning, Laws, UnitCost, SignedCost, sum}
 use Rattle.scale.specs.Meaning.UnitCost.{of-satisfied, of-up, of-down}
 use Rattle.scale.specs.Meaning.SignedCost.{cost, gain}
 use Rattle.scale.specs.Pair.{pair}
-use Rattle.scale.proofs.Tests.{both, first-of, second-of}
+use Rattle.scale.proofs.Both.{both, first-of, second-of}
 
 record Part (m n : Meaning) (f : m .Value → n .Value) : Type 0 where
   zeros : f (m .zero) ≡ n .zero

@@ -23,3 +23,6 @@ pub type Activation = Pair<Satisfaction, Pair<Volume, Money>>;
 
 // Satisfaction alone.
 pub type Netting = Satisfaction;
+
+#[cfg(test)]
+mod tests;
