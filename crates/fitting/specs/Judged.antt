@@ -2,18 +2,22 @@
 --
 --   satisfied-at, flow-at, activated-at
 --                    the amount for an area, a border, a bid
+--   OneForEach       a selection has one amount for each record of the case
+--   prices-of        the prices of all areas
 --   balances         what enters an area is what it has satisfied
 --   demand-priced, border-priced, bid-priced
 --                    the fitting rules where a price may be missing: a price out of range fits nothing
 --   judged           the questions in their order
+use mathlib.Core.Path.{_≡_}
 use mathlib.Core.Bool.{Bool, true, false}
-use mathlib.Core.List.{List}
+use mathlib.Core.List.{List, map}
 use Prim.Native.Nat.{ℕ}
 use lib.IntN.{ℤ, pos}
 use lib.ListN.{length, getD}
 use lib.Signed.{leZ}
 use mathlib.Core.Bool.{_&&_}
-use Rattle.std.specs.Options.{isSome}
+use Rattle.std.specs.Iters.{counting}
+use Rattle.std.specs.Options.{isSome, valueOr}
 use Rattle.std.specs.declared.option.Option.{Option}
 use Rattle.std.specs.declared.option.Option.the-variants.{Some, None}
 use Rattle.std.specs.declared.result.Result.{Result}
@@ -35,6 +39,16 @@ flow-at s k = getD (s .flows) k (pos 0)
 
 abbrev pub activated-at : Selection → ℕ → ℕ
 activated-at s k = getD (s .activated) k 0
+
+-- one amount for each area, border and bid of the case
+pub record OneForEach (c : Case) (s : Selection) : Type 0 where
+  pub satisfied-count : length (s .satisfied) ≡ areas c
+  pub flows-count : length (s .flows) ≡ length (c .borders)
+  pub activated-count : length (s .activated) ≡ length (c .bids)
+
+-- the prices of all areas, with zero where one is missing
+abbrev pub prices-of : (m : Meaning) → (price : ℕ → Option (m .Value)) → ℕ → List (m .Value)
+prices-of m price n = map (λ a. valueOr (price a) (m .zero)) (counting 0 n)
 
 -- up minus down plus flows in minus flows out equals the satisfied amount
 abbrev pub balances : Case → Selection → ℕ → Bool
