@@ -4,6 +4,7 @@
 --   numbers-append   the numbers in bytes are those in the front, then those in the rest
 --   read-is          what is read where the levels are at most 16
 --   both-read        what a pair reads, from what its parts read
+--   told             what a call read, once `?` has told which way it went
 --   pair-reads       a pair reads its first part from the front, and its second from the rest
 use mathlib.Core.Path.{_≡_, refl, sym, _∙_, ap}
 use mathlib.Core.Bool.{Bool, true, false, cond, _&&_}
@@ -16,6 +17,7 @@ use lib.IntN.{ℤ}
 use lib.ListN.{length, take, drop}
 use mir.Syntax.{w64}
 use mir.Val.{toZ}
+use Rattle.std.specs.Options.{mapped}
 use Rattle.std.specs.declared.option.Option.{Option}
 use Rattle.std.specs.declared.option.Option.the-variants.{Some, None}
 use Rattle.std.proofs.shelf.Lists.{take-at, drop-at, take-take, drop-drop, drop-take, length-take-le, length-drop}
@@ -122,3 +124,7 @@ module _ (a b : Meaning) (n m : ℕ) (bs front back : List ℕ) (e : n ≡ a .le
 
   pub some-both : (x : a .Value) (y : b .Value) → Some x ≡ read-bytes a front → Some y ≡ read-bytes b back → Some (x, y) ≡ read-bytes (pair a b) bs
   some-both x y h k = sym (reads ∙ (λ i. both-read (sym h i) (sym k i)))
+
+-- what a call read, once `?` has told which way it went
+pub told : {K X Y : Type 0} (way : K → Option X) (worth : X → Y) (r : Option X) (f g : K) (v : Option Y) → r ≡ way f → f ≡ g → mapped worth r ≡ v → mapped worth (way g) ≡ v
+told way worth r f g v e is h = sym (ap (mapped worth) (e ∙ ap way is)) ∙ h

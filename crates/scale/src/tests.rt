@@ -2,16 +2,6 @@ use super::*;
 use std::cmp::Ordering;
 use std::test::*;
 
-type Two = Pair<Satisfaction, Volume>;
-
-type Four = Pair<Two, Two>;
-
-type Eight = Pair<Four, Four>;
-
-type Sixteen = Pair<Eight, Eight>;
-
-type Seventeen = Pair<Sixteen, Money>;
-
 // The price that the numbers write on the activation scale, from the first `count` bytes of four levels.
 fn read(levels: [i64; 4], count: usize) -> Option<(i64, (i64, i64))> {
     let [a, b, c, d] = levels;
@@ -43,6 +33,8 @@ fn range_ends() -> Result<(), Fail> {
 
 #[test]
 fn levels_of_the_activation_scale() -> Result<(), Fail> {
+    check_eq(Activation::levels(), 3)?;
+    check(Activation::bids_take_part() && !Netting::bids_take_part())?;
     let most = 79_999_200i64;
     for (levels, count, inside) in [
         ([8, 8, most, 0], 24, true),
@@ -79,14 +71,34 @@ fn the_first_part_decides() -> Result<(), Fail> {
     check_eq(Activation::compare((0, (-1, 5)), sum), Ordering::Less)
 }
 
+// Each doubles the levels, on the way from one to sixteen.
+fn from_one<S: Scale>() -> Result<(), Fail> {
+    from_two::<Pair<S, S>>()
+}
+
+fn from_two<S: Scale>() -> Result<(), Fail> {
+    from_four::<Pair<S, S>>()
+}
+
+fn from_four<S: Scale>() -> Result<(), Fail> {
+    from_eight::<Pair<S, S>>()
+}
+
+fn from_eight<S: Scale>() -> Result<(), Fail> {
+    at_sixteen::<Pair<S, S>>()
+}
+
+fn at_sixteen<S: Scale>() -> Result<(), Fail> {
+    check_eq(S::levels(), 16)?;
+    check(S::read_price(&[0; 128]).is_some())?;
+    check(S::read_price(&[0; 136]).is_none())?;
+    check_eq(Pair::<S, Money>::levels(), 17)?;
+    check(Pair::<S, Money>::read_price(&[0; 136]).is_none())?;
+    check_eq(Pair::<S, S>::levels(), 17)?;
+    check(Pair::<S, S>::read_price(&[0; 256]).is_none())
+}
+
 #[test]
-fn sixteen_levels_and_more() -> Result<(), Fail> {
-    check_eq(Sixteen::levels(), 16)?;
-    check(Sixteen::read_price(&[0; 128]).is_some())?;
-    check_eq(Seventeen::levels(), 17)?;
-    check(Seventeen::read_price(&[0; 136]).is_none())?;
-    check_eq(Pair::<Sixteen, Sixteen>::levels(), 17)?;
-    check(Pair::<Sixteen, Sixteen>::read_price(&[0; 256]).is_none())?;
-    check(Activation::bids_take_part())?;
-    check(!Netting::bids_take_part())
+fn sixteen_levels_and_seventeen() -> Result<(), Fail> {
+    from_one::<Satisfaction>()
 }
