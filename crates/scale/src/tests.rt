@@ -3,9 +3,13 @@ use std::cmp::Ordering;
 use std::test::*;
 
 type Two = Pair<Satisfaction, Volume>;
+
 type Four = Pair<Two, Two>;
+
 type Eight = Pair<Four, Four>;
+
 type Sixteen = Pair<Eight, Eight>;
+
 type Seventeen = Pair<Sixteen, Money>;
 
 // The price that the numbers write on the activation scale, from the first `count` bytes of four levels.
@@ -26,7 +30,12 @@ fn range_ends() -> Result<(), Fail> {
         check_eq(Satisfaction::read_price(&bytes).is_some(), inside)?;
         check_eq(Volume::read_price(&bytes).is_some(), inside)?;
     }
-    for (level, inside) in [(79_999_200i64, true), (-79_999_200, true), (79_999_201, false), (-79_999_201, false)] {
+    for (level, inside) in [
+        (79_999_200i64, true),
+        (-79_999_200, true),
+        (79_999_201, false),
+        (-79_999_201, false),
+    ] {
         check_eq(Money::read_price(&level.to_le_bytes()).is_some(), inside)?;
     }
     Ok(())
@@ -61,7 +70,10 @@ fn the_first_part_decides() -> Result<(), Fail> {
     check_eq(Activation::down(-9_999_900), (0, (1, 9_999_900)))?;
     check_eq(Activation::satisfied(), (-1, (0, 0)))?;
     let sum = Activation::sum(unit, (0, (-1, 9_999_901)));
-    check_eq(Activation::compare(sum, Activation::zero()), Ordering::Greater)?;
+    check_eq(
+        Activation::compare(sum, Activation::zero()),
+        Ordering::Greater,
+    )?;
     check_eq(Activation::compare((-1, (8, 8)), sum), Ordering::Less)?;
     check_eq(Activation::compare((0, (0, 1)), sum), Ordering::Equal)?;
     check_eq(Activation::compare((0, (-1, 5)), sum), Ordering::Less)
