@@ -1,5 +1,6 @@
 // The questions on prices: is each in range, and does it fit the demands, borders and bids?
 ghost use denote.Ref.{now};
+ghost use mathlib.Core.Path.{_≡_};
 ghost use Rattle.std.specs.Of.Vec.{vec-len};
 ghost use Rattle.std.specs.Options.{isSome, mapped};
 ghost use Rattle.scale.specs.Levels.{read-bytes};
@@ -41,7 +42,9 @@ pub impl<S: Scale> Question for PriceInRange<'_, '_, '_, S> as PriceInRangeQuest
         S::read_price(self.proposal.price(place)).is_some()
     }
 
-    fn refusal(place: usize) -> Refusal {
+    fn refusal(place: usize) -> Refusal
+        ensures { λ r. ⌜ r ≡ Price place ⌝ }
+    {
         Refusal::Price(place)
     }
 }
@@ -73,7 +76,9 @@ pub impl<S: Scale> Question for DemandFits<'_, '_, '_, S> as DemandFitsQuestion 
         }
     }
 
-    fn refusal(place: usize) -> Refusal {
+    fn refusal(place: usize) -> Refusal
+        ensures { λ r. ⌜ r ≡ DemandFit place ⌝ }
+    {
         Refusal::DemandFit(place)
     }
 }
@@ -108,7 +113,9 @@ pub impl<S: Scale> Question for BorderFits<'_, '_, '_, S> as BorderFitsQuestion 
         is_border_fitting::<S>(border, flow, from, to)
     }
 
-    fn refusal(place: usize) -> Refusal {
+    fn refusal(place: usize) -> Refusal
+        ensures { λ r. ⌜ r ≡ BorderFit place ⌝ }
+    {
         Refusal::BorderFit(place)
     }
 }
@@ -140,7 +147,9 @@ pub impl<S: Scale> Question for BidFits<'_, '_, '_, S> as BidFitsQuestion {
         }
     }
 
-    fn refusal(place: usize) -> Refusal {
+    fn refusal(place: usize) -> Refusal
+        ensures { λ r. ⌜ r ≡ BidFit place ⌝ }
+    {
         Refusal::BidFit(place)
     }
 }

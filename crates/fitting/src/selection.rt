@@ -1,5 +1,6 @@
 // The questions on a selection: are its amounts allowed, and does every area balance?
 ghost use denote.Ref.{now};
+ghost use mathlib.Core.Path.{_≡_};
 ghost use mathlib.Core.Bool.{_&&_};
 ghost use lib.IntN.{pos};
 ghost use lib.ListN.{getD, length};
@@ -40,7 +41,9 @@ pub impl Question for SatisfiedAllowed<'_, '_, '_> as SatisfiedAllowedQuestion {
         is_satisfied_allowed(self.book.demands[place], self.proposal.satisfied(place))
     }
 
-    fn refusal(place: usize) -> Refusal {
+    fn refusal(place: usize) -> Refusal
+        ensures { λ r. ⌜ r ≡ Satisfied place ⌝ }
+    {
         Refusal::Satisfied(place)
     }
 }
@@ -66,7 +69,9 @@ pub impl Question for FlowAllowed<'_, '_, '_> as FlowAllowedQuestion {
         is_flow_allowed(self.book.borders[place], self.proposal.flow(place))
     }
 
-    fn refusal(place: usize) -> Refusal {
+    fn refusal(place: usize) -> Refusal
+        ensures { λ r. ⌜ r ≡ Flow place ⌝ }
+    {
         Refusal::Flow(place)
     }
 }
@@ -92,7 +97,9 @@ pub impl Question for ActivatedAllowed<'_, '_, '_> as ActivatedAllowedQuestion {
         is_activated_allowed(self.book.bids[place], self.proposal.activated(place))
     }
 
-    fn refusal(place: usize) -> Refusal {
+    fn refusal(place: usize) -> Refusal
+        ensures { λ r. ⌜ r ≡ Activated place ⌝ }
+    {
         Refusal::Activated(place)
     }
 }
@@ -123,7 +130,9 @@ pub impl Question for AreaBalances<'_, '_, '_, '_> as AreaBalancesQuestion {
         }
     }
 
-    fn refusal(place: usize) -> Refusal {
+    fn refusal(place: usize) -> Refusal
+        ensures { λ r. ⌜ r ≡ Balance place ⌝ }
+    {
         Refusal::Balance(place)
     }
 }
