@@ -1,3 +1,4 @@
 pub mod Balances
 pub mod Passed
 pub mod Settled
+pub mod Sheets

@@ -32,11 +32,11 @@ use Rattle.market.proofs.Firsts.{all-from-ask, ask-all, both-from-and-then, and
 use Rattle.fitting.specs.Judged.{OneForEach, satisfied-at, flow-at, activated-at, balances, demand-priced, border-priced, bid-priced, prices-of, judged}
 
 -- a test that is true
-so : (b : Bool) → b ≡ true → T b
+pub so : (b : Bool) → b ≡ true → T b
 so true e = tt
 so false e = absurd (let z : _≡_ {A = ℕ} 0 1 = cc in omega arith)
 
-yes-so : (b : Bool) → T b → b ≡ true
+pub yes-so : (b : Bool) → T b → b ≡ true
 yes-so true t = refl
 yes-so false t = absurd t
 

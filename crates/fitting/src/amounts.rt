@@ -1,5 +1,7 @@
 // Whether an amount lies within its limits.
 ghost use mathlib.Core.Path.{_≡_};
+ghost use mathlib.Core.Bool.{_&&_};
+ghost use lib.Signed.{leZ};
 ghost use Rattle.market.specs.Selections.{satisfied-allowed, flow-allowed, activated-allowed};
 use market::Bid;
 use market::Border;
@@ -23,4 +25,11 @@ pub fn is_activated_allowed(bid: Bid, activated: u32) -> bool
     ensures { λ r. ⌜ r ≡ activated-allowed bid activated ⌝ }
 {
     activated <= bid.volume
+}
+
+// What enters an area is what it has satisfied.
+pub fn is_balanced(sum: i64, satisfied: i32) -> bool
+    ensures { λ r. ⌜ r ≡ (leZ sum satisfied && leZ satisfied sum) ⌝ }
+{
+    sum == i64::from(satisfied)
 }

@@ -2,8 +2,10 @@
 ghost use Prim.Native.Nat.{ℕ, _<_, _≤_, _*_};
 ghost use mathlib.Core.Path.{_≡_};
 ghost use lib.IntN.{pos, _+ℤ_, negℤ};
-ghost use lib.ListN.{getD};
+ghost use lib.ListN.{getD, set};
 ghost use lib.Signed.{_≤ℤ_};
+ghost use mir.Syntax.{w64};
+ghost use mir.Val.{SFits};
 ghost use Rattle.std.specs.Of.Vec.{vec-items};
 ghost use Rattle.market.specs.Held.{held};
 ghost use Rattle.market.specs.Selections.{injected, activated-in, flows-into, net};
@@ -29,8 +31,7 @@ fn activations(book: &Book, proposal: &Proposal) -> [i64; AREAS]
 {
     let mut sums = [0; AREAS];
     for (place, bid) in book.bids.iter().enumerate() {
-        let area = usize::from(bid.area);
-        sums[area] += injection(bid.direction, proposal.activated(place));
+        add(&mut sums, usize::from(bid.area), injection(bid.direction, proposal.activated(place)));
     }
     sums
 }
@@ -43,10 +44,8 @@ fn add_flows(book: &Book, proposal: &Proposal, activations: [i64; AREAS]) -> [i6
     let mut sums = activations;
     for (place, border) in book.borders.iter().enumerate() {
         let flow = i64::from(proposal.flow(place));
-        let from = usize::from(border.from);
-        let to = usize::from(border.to);
-        sums[from] -= flow;
-        sums[to] += flow;
+        add(&mut sums, usize::from(border.from), -flow);
+        add(&mut sums, usize::from(border.to), flow);
     }
     sums
 }
@@ -59,4 +58,13 @@ fn injection(direction: Direction, activated: u32) -> i64
         Direction::Up => i64::from(activated),
         Direction::Down => -i64::from(activated),
     }
+}
+
+// Adds to the sum of one area.
+fn add(sums: &mut [i64; AREAS], area: usize, amount: i64)
+    requires known { ⌜ area < 48 ⌝ }
+    requires fits { ⌜ SFits w64 (getD (now sums) area (pos 0) +ℤ amount) ⌝ }
+    ensures { λ _. ⌜ now (sums .exit) ≡ set (now (sums .entry)) area (getD (now (sums .entry)) area (pos 0) +ℤ amount) ⌝ }
+{
+    sums[area] += amount;
 }

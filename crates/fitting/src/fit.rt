@@ -1,7 +1,8 @@
 // The questions on prices: is each in range, and does it fit the demands, borders and bids?
 ghost use denote.Ref.{now};
 ghost use mathlib.Core.Path.{_≡_};
-ghost use Rattle.std.specs.Of.Vec.{vec-len};
+ghost use lib.ListN.{length};
+ghost use Rattle.std.specs.Of.Vec.{vec-items};
 ghost use Rattle.std.specs.Options.{isSome, mapped};
 ghost use Rattle.scale.specs.Levels.{read-bytes};
 ghost use Rattle.market.specs.Cases.{demand-at, border-at, bid-at};
@@ -21,6 +22,7 @@ use scale::Scale;
 use std::marker::PhantomData;
 
 // 14: is the area's price in range?
+#[derive(Drop)]
 pub struct PriceInRange<'b, 'p, 'd, S> {
     pub book: &'b Book,
     pub proposal: &'p Proposal<'d>,
@@ -28,7 +30,7 @@ pub struct PriceInRange<'b, 'p, 'd, S> {
 }
 
 pub impl<S: Scale> Question for PriceInRange<'_, '_, '_, S> as PriceInRangeQuestion {
-    ghost places = { λ q. vec-len (now (q .book) .demands) };
+    ghost places = { λ q. length (vec-items (now (q .book) .demands)) };
 
     ghost ok = { λ q a. isSome (price-held (S·Scale .meaning) (now (q .proposal)) a) };
 
@@ -50,6 +52,7 @@ pub impl<S: Scale> Question for PriceInRange<'_, '_, '_, S> as PriceInRangeQuest
 }
 
 // 15: does the area's demand fit?
+#[derive(Drop)]
 pub struct DemandFits<'b, 'p, 'd, S> {
     pub book: &'b Book,
     pub proposal: &'p Proposal<'d>,
@@ -57,7 +60,7 @@ pub struct DemandFits<'b, 'p, 'd, S> {
 }
 
 pub impl<S: Scale> Question for DemandFits<'_, '_, '_, S> as DemandFitsQuestion {
-    ghost places = { λ q. vec-len (now (q .book) .demands) };
+    ghost places = { λ q. length (vec-items (now (q .book) .demands)) };
 
     ghost ok = { λ q a. demand-priced (S·Scale .meaning) (demand-at (held (now (q .book))) a) (satisfied-at (selection-held (now (q .proposal))) a) (price-held (S·Scale .meaning) (now (q .proposal)) a) };
 
@@ -84,6 +87,7 @@ pub impl<S: Scale> Question for DemandFits<'_, '_, '_, S> as DemandFitsQuestion 
 }
 
 // 16: does the border fit?
+#[derive(Drop)]
 pub struct BorderFits<'b, 'p, 'd, S> {
     pub book: &'b Book,
     pub proposal: &'p Proposal<'d>,
@@ -91,7 +95,7 @@ pub struct BorderFits<'b, 'p, 'd, S> {
 }
 
 pub impl<S: Scale> Question for BorderFits<'_, '_, '_, S> as BorderFitsQuestion {
-    ghost places = { λ q. vec-len (now (q .book) .borders) };
+    ghost places = { λ q. length (vec-items (now (q .book) .borders)) };
 
     ghost ok = { λ q k. border-priced (S·Scale .meaning) (border-at (held (now (q .book))) k) (flow-at (selection-held (now (q .proposal))) k) (price-held (S·Scale .meaning) (now (q .proposal)) (border-at (held (now (q .book))) k .from)) (price-held (S·Scale .meaning) (now (q .proposal)) (border-at (held (now (q .book))) k .to)) };
 
@@ -121,6 +125,7 @@ pub impl<S: Scale> Question for BorderFits<'_, '_, '_, S> as BorderFitsQuestion 
 }
 
 // 17: does the bid fit?
+#[derive(Drop)]
 pub struct BidFits<'b, 'p, 'd, S> {
     pub book: &'b Book,
     pub proposal: &'p Proposal<'d>,
@@ -128,7 +133,7 @@ pub struct BidFits<'b, 'p, 'd, S> {
 }
 
 pub impl<S: Scale> Question for BidFits<'_, '_, '_, S> as BidFitsQuestion {
-    ghost places = { λ q. vec-len (now (q .book) .bids) };
+    ghost places = { λ q. length (vec-items (now (q .book) .bids)) };
 
     ghost ok = { λ q k. bid-priced (S·Scale .meaning) (bid-at (held (now (q .book))) k) (activated-at (selection-held (now (q .proposal))) k) (price-held (S·Scale .meaning) (now (q .proposal)) (bid-at (held (now (q .book))) k .area)) };
 

@@ -4,3 +4,6 @@ mod balance;
 mod fit;
 mod prices;
 mod selection;
+mod verdict;
+
+pub use verdict::judge;

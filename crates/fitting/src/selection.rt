@@ -5,7 +5,7 @@ ghost use mathlib.Core.Bool.{_&&_};
 ghost use lib.IntN.{pos};
 ghost use lib.ListN.{getD, length};
 ghost use lib.Signed.{leZ};
-ghost use Rattle.std.specs.Of.Vec.{vec-len};
+ghost use Rattle.std.specs.Of.Vec.{vec-items};
 ghost use Rattle.market.specs.Cases.{demand-at, border-at, bid-at};
 ghost use Rattle.market.specs.Held.{held};
 ghost use Rattle.market.specs.Selections.{satisfied-allowed, flow-allowed, activated-allowed};
@@ -13,6 +13,7 @@ ghost use Rattle.market.specs.declared.refusal.Refusal.the-variants.{Satisfied,
 ghost use Rattle.layout.specs.Sections.{selection-held};
 ghost use Rattle.fitting.specs.Judged.{satisfied-at, flow-at, activated-at};
 use crate::amounts::is_activated_allowed;
+use crate::amounts::is_balanced;
 use crate::amounts::is_flow_allowed;
 use crate::amounts::is_satisfied_allowed;
 use layout::Proposal;
@@ -21,13 +22,14 @@ use market::Question;
 use market::Refusal;
 
 // 10: is the area's satisfied amount allowed?
+#[derive(Drop)]
 pub struct SatisfiedAllowed<'b, 'p, 'd> {
     pub book: &'b Book,
     pub proposal: &'p Proposal<'d>,
 }
 
 pub impl Question for SatisfiedAllowed<'_, '_, '_> as SatisfiedAllowedQuestion {
-    ghost places = { λ q. vec-len (now (q .book) .demands) };
+    ghost places = { λ q. length (vec-items (now (q .book) .demands)) };
 
     ghost ok = { λ q a. satisfied-allowed (demand-at (held (now (q .book))) a) (satisfied-at (selection-held (now (q .proposal))) a) };
 
@@ -49,13 +51,14 @@ pub impl Question for SatisfiedAllowed<'_, '_, '_> as SatisfiedAllowedQuestion {
 }
 
 // 11: is the border's flow allowed?
+#[derive(Drop)]
 pub struct FlowAllowed<'b, 'p, 'd> {
     pub book: &'b Book,
     pub proposal: &'p Proposal<'d>,
 }
 
 pub impl Question for FlowAllowed<'_, '_, '_> as FlowAllowedQuestion {
-    ghost places = { λ q. vec-len (now (q .book) .borders) };
+    ghost places = { λ q. length (vec-items (now (q .book) .borders)) };
 
     ghost ok = { λ q k. flow-allowed (border-at (held (now (q .book))) k) (flow-at (selection-held (now (q .proposal))) k) };
 
@@ -77,13 +80,14 @@ pub impl Question for FlowAllowed<'_, '_, '_> as FlowAllowedQuestion {
 }
 
 // 12: is the bid's activated amount allowed?
+#[derive(Drop)]
 pub struct ActivatedAllowed<'b, 'p, 'd> {
     pub book: &'b Book,
     pub proposal: &'p Proposal<'d>,
 }
 
 pub impl Question for ActivatedAllowed<'_, '_, '_> as ActivatedAllowedQuestion {
-    ghost places = { λ q. vec-len (now (q .book) .bids) };
+    ghost places = { λ q. length (vec-items (now (q .book) .bids)) };
 
     ghost ok = { λ q k. activated-allowed (bid-at (held (now (q .book))) k) (activated-at (selection-held (now (q .proposal))) k) };
 
@@ -105,6 +109,7 @@ pub impl Question for ActivatedAllowed<'_, '_, '_> as ActivatedAllowedQuestion {
 }
 
 // 13: does the area balance, by the sums of what enters each area?
+#[derive(Drop)]
 pub struct AreaBalances<'b, 'p, 'd, 's> {
     pub book: &'b Book,
     pub proposal: &'p Proposal<'d>,
@@ -112,7 +117,7 @@ pub struct AreaBalances<'b, 'p, 'd, 's> {
 }
 
 pub impl Question for AreaBalances<'_, '_, '_, '_> as AreaBalancesQuestion {
-    ghost places = { λ q. vec-len (now (q .book) .demands) };
+    ghost places = { λ q. length (vec-items (now (q .book) .demands)) };
 
     ghost ok = { λ q a. leZ (getD (now (q .sums)) a (pos 0)) (satisfied-at (selection-held (now (q .proposal))) a) && leZ (satisfied-at (selection-held (now (q .proposal))) a) (getD (now (q .sums)) a (pos 0)) };
 
@@ -123,11 +128,7 @@ pub impl Question for AreaBalances<'_, '_, '_, '_> as AreaBalancesQuestion {
     }
 
     fn passes(&self, place: usize) -> bool {
-        let satisfied = i64::from(self.proposal.satisfied(place));
-        match self.sums.get(place) {
-            Some(sum) => *sum == satisfied,
-            None => satisfied == 0,
-        }
+        is_balanced(sum_at(self.sums, place), self.proposal.satisfied(place))
     }
 
     fn refusal(place: usize) -> Refusal
@@ -135,4 +136,11 @@ pub impl Question for AreaBalances<'_, '_, '_, '_> as AreaBalancesQuestion {
     {
         Refusal::Balance(place)
     }
+}
+
+// The sum of an area; 0 past the last.
+fn sum_at(sums: &[i64], area: usize) -> i64
+    ensures { λ r. ⌜ r ≡ getD (now (sums .entry)) area (pos 0) ⌝ }
+{
+    if area < sums.len() { sums[area] } else { 0 }
 }

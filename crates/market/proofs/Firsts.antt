@@ -66,3 +66,13 @@ both-from-and-then (Err x) b e = absurd (let z : _≡_ {A = ℕ} 0 1 = cc in ome
 
 pub and-then-both : {E : Type 0} (a b : Result (Unit {0}) E) → a ≡ Ok tt → b ≡ Ok tt → and-then a b ≡ Ok tt
 and-then-both a b p q = ap (λ x. and-then x b) p ∙ q
+
+-- tests that agree at the places asked get the same answer
+first-no-same : (ok other : ℕ → Bool) (i n : ℕ) → ((k : ℕ) → i ≤ k → k < i + n → ok k ≡ other k) → first-no ok i n ≡ first-no other i n
+first-no-same ok other i zero same = refl
+first-no-same ok other i (suc n) same =
+    ap (λ b. cond b (first-no ok (suc i) n) (Some i)) (same i (omega arith) (omega arith))
+    ∙ ap (λ r. cond (other i) r (Some i)) (first-no-same ok other (suc i) n (λ k low high. same k (omega arith) (omega arith)))
+
+pub ask-same : {E : Type 0} (ok other : ℕ → Bool) (n : ℕ) (refusal : ℕ → E) → ((k : ℕ) → k < n → ok k ≡ other k) → ask ok n refusal ≡ ask other n refusal
+ask-same ok other n refusal same = ap (refused-at refusal) (first-no-same ok other 0 n (λ k low high. same k (omega arith)))
