@@ -40,8 +40,11 @@ fn levels_of_the_activation_scale() -> Result<(), Fail> {
         ([8, 8, most, 0], 24, true),
         ([-8, -8, -most, 0], 24, true),
         ([9, 8, most, 0], 24, false),
+        ([-9, 8, most, 0], 24, false),
+        ([8, 9, most, 0], 24, false),
         ([8, -9, most, 0], 24, false),
         ([8, 8, most + 1, 0], 24, false),
+        ([8, 8, -most - 1, 0], 24, false),
         // a level short, a level long, a byte short, a byte long
         ([0, 0, 0, 0], 16, false),
         ([0, 0, 0, 0], 32, false),
