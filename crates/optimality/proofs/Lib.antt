@@ -1,0 +1,4 @@
+pub mod Groups
+pub mod Multiples
+pub mod Families
+pub mod NoCheaper
