@@ -5,3 +5,6 @@ pub mod NoCheaper
 pub mod Items
 pub mod Book
 pub mod Sums
+pub mod Rules
+pub mod Records
+pub mod FittingIsUnbeaten
