@@ -52,12 +52,12 @@ module _ (m : Meaning) (laws : Laws m) where
       from-records m (Fitting (of-meaning m laws) p) c s (sized c s within)
       (record {
         demands = λ a h.
-          demand-fitting m laws p refl a (getD (c .demands) a (pos 0)) (getD (s .satisfied) a (pos 0))
-          (demand-bounds m a (getD (c .demands) a (pos 0)) (getD (s .satisfied) a (pos 0)) (within .satisfied-ok a h)) (fits .demands a h);
+            demand-fitting m laws p refl a (getD (c .demands) a (pos 0)) (getD (s .satisfied) a (pos 0))
+            (demand-bounds m a (getD (c .demands) a (pos 0)) (getD (s .satisfied) a (pos 0)) (within .satisfied-ok a h)) (fits .demands a h);
         borders = λ k d h. border-fitting m laws p refl (getD (c .borders) k d) (getD (s .flows) k (pos 0)) (fits .borders k d h);
         bids = λ k d h.
-          let b = getD (c .bids) k d in
-          bid-fitting m laws p refl (b .direction) (b .area) (b .volume) (b .price) (getD (s .activated) k 0) (fits .bids k d h);
+            let b = getD (c .bids) k d in
+            bid-fitting m laws p refl (b .direction) (b .area) (b .volume) (b .price) (getD (s .activated) k 0) (fits .bids k d h);
       })
 
   least : (c : Case) → Valid c → (s : Selection) (within : WithinLimits c s) (prices : List (m .Value)) → Fits m c s prices → (y : Selection) → WithinLimits c y → Leq (of-meaning m laws) (total m c s) (total m c y)
@@ -66,10 +66,10 @@ module _ (m : Meaning) (laws : Laws m) where
       (sym (total-is m laws c s (sized c s within) (in-bounds m c s within)))
       (sym (total-is m laws c y (sized c y other) (in-bounds m c y other)))
       (no-cheaper (of-meaning m laws) (items m c) (suc (areas c)) (node-price m prices) (amounts s) (amounts y) (items-known m c valid) refl
-       (fitting c s within prices fits) (in-bounds m c y other)
-       (λ a h.
-        let l : a < areas c = omega arith in
-        net-none m c s a (sized c s within) l (within .balanced a l) ∙ sym (net-none m c y a (sized c y other) l (other .balanced a l))))
+      (fitting c s within prices fits) (in-bounds m c y other)
+      (λ a h.
+      let l : a < areas c = omega arith in
+      net-none m c s a (sized c s within) l (within .balanced a l) ∙ sym (net-none m c y a (sized c y other) l (other .balanced a l))))
 
   pub fitting-is-unbeaten : Fitting-is-unbeaten m
   fitting-is-unbeaten c valid s within prices fits =

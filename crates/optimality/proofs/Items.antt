@@ -103,13 +103,14 @@ module _ (G : Group) where
       let h = p (i .head) in
       let t = p (i .tail) in
       let c = i .cost in
-      let r : reduced G (λ j. j .cost) effect p n i ≡ plus c (opposite (plus h (opposite t))) = ap (λ w. plus c (opposite w)) (worth-of p n i k) in
-      (λ l. subst (Leq G (G .zero)) (sym r)
-       (leq-shift G h (plus t c) (G .zero) (plus c (opposite (plus h (opposite t)))) (f .0 l)
-        (solve G (h ∷ t ∷ c ∷ []) (nil ⊕ (var 1 ⊕ var 2)) (var 0 ⊕ (var 2 ⊕ neg (var 0 ⊕ neg (var 1)))) tt)),
-       λ l. subst (λ w. Leq G w (G .zero)) (sym r)
-       (leq-shift G (plus t c) h (plus c (opposite (plus h (opposite t)))) (G .zero) (f .1 l)
-        (solve G (h ∷ t ∷ c ∷ []) ((var 2 ⊕ neg (var 0 ⊕ neg (var 1))) ⊕ var 0) ((var 1 ⊕ var 2) ⊕ nil) tt)))
+      let r : reduced G (λ j. j .cost) effect p n i ≡ plus c (opposite (plus h (opposite t))) = ap (λ w. plus c (opposite w)) (worth-of p n i k) in (
+        λ l. subst (Leq G (G .zero)) (sym r)
+            (leq-shift G h (plus t c) (G .zero) (plus c (opposite (plus h (opposite t)))) (f .0 l)
+            (solve G (h ∷ t ∷ c ∷ []) (nil ⊕ (var 1 ⊕ var 2)) (var 0 ⊕ (var 2 ⊕ neg (var 0 ⊕ neg (var 1)))) tt)),
+        λ l. subst (λ w. Leq G w (G .zero)) (sym r)
+            (leq-shift G (plus t c) h (plus c (opposite (plus h (opposite t)))) (G .zero) (f .1 l)
+            (solve G (h ∷ t ∷ c ∷ []) ((var 2 ⊕ neg (var 0 ⊕ neg (var 1))) ⊕ var 0) ((var 1 ⊕ var 2) ⊕ nil) tt)),
+      )
 
   pub no-cheaper : (is : List (Item Value)) (n : ℕ) (p : ℕ → Value) (x y : ℕ → ℤ) → All (Known n) is → p 0 ≡ G .zero →
       Each (Fitting G p) is x → Each InBounds is y → ((v : ℕ) → suc v < n → net-at is x (suc v) ≡ net-at is y (suc v)) →

@@ -8,3 +8,5 @@ pub mod Sums
 pub mod Rules
 pub mod Records
 pub mod FittingIsUnbeaten
+pub mod Walks
+pub mod Potentials

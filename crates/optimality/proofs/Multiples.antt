@@ -45,6 +45,7 @@ module _ (G : Group) where
       left : plus (plus a b) (plus (opposite b) d) ≡ plus a d
       left =
           plus-assoc a b (plus (opposite b) d) ∙ ap (plus a) (sym (plus-assoc b (opposite b) d) ∙ ap (λ x. plus x d) (plus-opposite b) ∙ zero-plus d)
+
       right : plus c b ≡ plus (plus c (opposite d)) (plus b d)
       right =
           sym (plus-zero G (plus c b)) ∙ ap (plus (plus c b)) (sym (opposite-plus G d)) ∙ plus-cross G c b (opposite d) d
@@ -58,7 +59,7 @@ module _ (G : Group) where
   opposite-of-sum a b =
       plus-cancel G (opposite (plus a b)) (plus (opposite a) (opposite b)) (plus a b)
       (opposite-plus G (plus a b)
-       ∙ sym (plus-cross G (opposite a) (opposite b) a b ∙ ap₂ plus (opposite-plus G a) (opposite-plus G b) ∙ zero-plus (G .zero)))
+      ∙ sym (plus-cross G (opposite a) (opposite b) a b ∙ ap₂ plus (opposite-plus G a) (opposite-plus G b) ∙ zero-plus (G .zero)))
 
   pub opposite-twice : (a : Value) → opposite (opposite a) ≡ a
   opposite-twice a = plus-cancel G (opposite (opposite a)) a (opposite a) (opposite-plus G (opposite a) ∙ sym (plus-opposite a))

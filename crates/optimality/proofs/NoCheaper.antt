@@ -60,14 +60,14 @@ module _ (G : Group) where
       let n : ℕ = natAbs (y +ℤ negℤ x) in
       subst (Leq G (scaled G x v)) (sym (more x y v h))
       (leq-shift G (G .zero) (times G n v) (scaled G x v) (plus (scaled G x v) (times G n v)) (times-least n v l)
-       (solve G (scaled G x v ∷ times G n v ∷ []) (var 0 ⊕ var 1) (nil ⊕ (var 0 ⊕ var 1)) tt))
+      (solve G (scaled G x v ∷ times G n v ∷ []) (var 0 ⊕ var 1) (nil ⊕ (var 0 ⊕ var 1)) tt))
 
   scaled-falls : (x y : ℤ) (v : Value) → x ≤ℤ y → Leq G v (G .zero) → Leq G (scaled G y v) (scaled G x v)
   scaled-falls x y v h l =
       let n : ℕ = natAbs (y +ℤ negℤ x) in
       subst (λ t. Leq G t (scaled G x v)) (sym (more x y v h))
       (leq-shift G (times G n v) (G .zero) (plus (scaled G x v) (times G n v)) (scaled G x v) (times-most n v l)
-       (solve G (scaled G x v ∷ times G n v ∷ []) ((var 0 ⊕ var 1) ⊕ nil) (var 1 ⊕ var 0) tt))
+      (solve G (scaled G x v ∷ times G n v ∷ []) ((var 0 ⊕ var 1) ⊕ nil) (var 1 ⊕ var 0) tt))
 
   module _ {I : Type 0} (low high : I → ℤ) (r : I → Value) where
     one-item : (i : I) (x y : ℤ) → Priced G low high r i x → Allowed low high i y → Leq G (scaled G x (r i)) (scaled G y (r i))
@@ -75,8 +75,8 @@ module _ (G : Group) where
         by-ltZ x y
         (λ l. scaled-rises x y (r i) (omega (arith, ints)) (fits .0 (omega (arith, ints, within .1))))
         (λ h. by-ltZ y x
-         (λ l. scaled-falls y x (r i) h (fits .1 (omega (arith, ints, within .0))))
-         (λ k. let e : x ≡ y = omega (arith, ints) in leq-same G (scaled G x (r i)) (scaled G y (r i)) (ap (λ z. scaled G z (r i)) e)))
+        (λ l. scaled-falls y x (r i) h (fits .1 (omega (arith, ints, within .0))))
+        (λ k. let e : x ≡ y = omega (arith, ints) in leq-same G (scaled G x (r i)) (scaled G y (r i)) (ap (λ z. scaled G z (r i)) e)))
 
     all-items : (is : List I) (x y : ℕ → ℤ) → Each (Priced G low high r) is x → Each (Allowed low high) is y → Leq G (gather G r is x) (gather G r is y)
     all-items [] x y fits within = leq-refl G (G .zero)
@@ -102,5 +102,5 @@ module _ (G : Group) where
         let cy = gather G cost is y in
         leq-shift G (plus cx (opposite w)) (plus cy (opposite w)) cx cy
         (subst₂ (Leq G) (parted is x ∙ ap (λ t. plus cx (opposite t)) (weigh-same G p n bx by same)) (parted is y)
-         (all-items low high (reduced G cost effect p n) is x y fits within))
+        (all-items low high (reduced G cost effect p n) is x y fits within))
         (solve G (cx ∷ cy ∷ w ∷ []) (var 0 ⊕ (var 1 ⊕ neg (var 2))) ((var 0 ⊕ neg (var 2)) ⊕ var 1) tt)

@@ -43,14 +43,14 @@ module _ (m : Meaning) where
         from-parts m c s sized P
         (record {
           demands = λ k d h.
-            let l : k < areas c = subst (λ n. k < n) (length-demand-items m 0 (c .demands)) h in
-            subst (λ i. P i (listed (s .satisfied) k)) (sym (demand-at 0 (c .demands) k k d (omega arith) l)) (r .demands k l);
+              let l : k < areas c = subst (λ n. k < n) (length-demand-items m 0 (c .demands)) h in
+              subst (λ i. P i (listed (s .satisfied) k)) (sym (demand-at 0 (c .demands) k k d (omega arith) l)) (r .demands k l);
           borders = λ k d h.
-            let l : k < length (c .borders) = subst (λ n. k < n) (length-map (c .borders) (border-item m)) h in
-            subst (λ i. P i (listed (s .flows) k)) (sym (getD-map (border-item m) (c .borders) k any-border d l)) (r .borders k any-border l);
+              let l : k < length (c .borders) = subst (λ n. k < n) (length-map (c .borders) (border-item m)) h in
+              subst (λ i. P i (listed (s .flows) k)) (sym (getD-map (border-item m) (c .borders) k any-border d l)) (r .borders k any-border l);
           bids = λ k d h.
-            let l : k < length (c .bids) = subst (λ n. k < n) (length-map (c .bids) (bid-item m)) h in
-            subst₂ P (sym (getD-map (bid-item m) (c .bids) k any-bid d l)) (sym (listed-pos k l)) (r .bids k any-bid l);
+              let l : k < length (c .bids) = subst (λ n. k < n) (length-map (c .bids) (bid-item m)) h in
+              subst₂ P (sym (getD-map (bid-item m) (c .bids) k any-bid d l)) (sym (listed-pos k l)) (r .bids k any-bid l);
         })
 
     pub to-records : Each P (items m c) (amounts s) → ByRecord m P c s
@@ -58,12 +58,12 @@ module _ (m : Meaning) where
         let parts = to-parts m c s sized P each in
         record {
           demands = λ a h.
-            subst (λ i. P i (listed (s .satisfied) a)) (demand-at 0 (c .demands) a a (demand-item m 0 (pos 0)) (omega arith) h)
-            (parts .demands a (demand-item m 0 (pos 0)) (subst (λ n. a < n) (sym (length-demand-items m 0 (c .demands))) h));
+              subst (λ i. P i (listed (s .satisfied) a)) (demand-at 0 (c .demands) a a (demand-item m 0 (pos 0)) (omega arith) h)
+              (parts .demands a (demand-item m 0 (pos 0)) (subst (λ n. a < n) (sym (length-demand-items m 0 (c .demands))) h));
           borders = λ k d h.
-            subst (λ i. P i (listed (s .flows) k)) (getD-map (border-item m) (c .borders) k d (border-item m any-border) h)
-            (parts .borders k (border-item m any-border) (subst (λ n. k < n) (sym (length-map (c .borders) (border-item m))) h));
+              subst (λ i. P i (listed (s .flows) k)) (getD-map (border-item m) (c .borders) k d (border-item m any-border) h)
+              (parts .borders k (border-item m any-border) (subst (λ n. k < n) (sym (length-map (c .borders) (border-item m))) h));
           bids = λ k d h.
-            subst₂ P (getD-map (bid-item m) (c .bids) k d (bid-item m any-bid) h) (listed-pos k h)
-            (parts .bids k (bid-item m any-bid) (subst (λ n. k < n) (sym (length-map (c .bids) (bid-item m))) h));
+              subst₂ P (getD-map (bid-item m) (c .bids) k d (bid-item m any-bid) h) (listed-pos k h)
+              (parts .bids k (bid-item m any-bid) (subst (λ n. k < n) (sym (length-map (c .bids) (bid-item m))) h));
         }

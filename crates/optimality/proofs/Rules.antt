@@ -119,11 +119,11 @@ module _ (m : Meaning) where
       all-append (Known (suc (areas c))) (demand-items m 0 (c .demands)) (map (border-item m) (c .borders) ++ map (bid-item m) (c .bids))
       (demands-known (areas c) 0 (c .demands) (omega arith))
       (all-append (Known (suc (areas c))) (map (border-item m) (c .borders)) (map (bid-item m) (c .bids))
-       (all-map (Known (suc (areas c))) (border-item m) (c .borders)
-        (all-weaker (λ b. T (ends-known (areas c) b)) (λ b. Known (suc (areas c)) (border-item m b)) (border-known (areas c)) (c .borders) (valid .borders-known)))
-       (all-map (Known (suc (areas c))) (bid-item m) (c .bids)
-        (all-weaker (λ b. T (bid-known (areas c) b)) (λ b. Known (suc (areas c)) (bid-item m b))
-         (λ b h. bid-known-of (areas c) (b .direction) (b .area) (b .volume) (b .price) (ltb→lt (b .area) (areas c) h)) (c .bids) (valid .bids-known))))
+      (all-map (Known (suc (areas c))) (border-item m) (c .borders)
+      (all-weaker (λ b. T (ends-known (areas c) b)) (λ b. Known (suc (areas c)) (border-item m b)) (border-known (areas c)) (c .borders) (valid .borders-known)))
+      (all-map (Known (suc (areas c))) (bid-item m) (c .bids)
+      (all-weaker (λ b. T (bid-known (areas c) b)) (λ b. Known (suc (areas c)) (bid-item m b))
+      (λ b h. bid-known-of (areas c) (b .direction) (b .area) (b .volume) (b .price) (ltb→lt (b .area) (areas c) h)) (c .bids) (valid .bids-known))))
 
 -- ---- fitting
 limits-out : (low high x : ℤ) (wb wa : Bool) (P Q : Type 0) → (T wb → P) → (T wa → Q) → T (at-limits (ltZ x high) (ltZ low x) wb wa) → (x <ℤ high → P) × (low <ℤ x → Q)
@@ -173,11 +173,12 @@ module _ (m : Meaning) (laws : Laws m) (p : ℕ → m .Value) (ground : p 0 ≡ 
   demand-fitting a (negsuc d) x b h =
       let t = m .satisfied in
       let q = p (suc a) in
-      let both = T-and (not (ltZ (negsuc d) x) || at-least m t q) (not (ltZ x (pos 0)) || at-most m t q) h in
-      (λ l. subst (λ v. Leq G v (m .plus q (m .opposite t))) (sym ground)
-       (leq-shift G t q (m .zero) (m .plus q (m .opposite t)) (T-not (m .less q t) (or-out (ltZ x (pos 0)) (at-most m t q) (both .1) (l .lt))) (more-of t q)),
-       λ l. subst (Leq G (m .plus q (m .opposite t))) (sym ground)
-       (leq-shift G q t (m .plus q (m .opposite t)) (m .zero) (T-not (m .less t q) (or-out (ltZ (negsuc d) x) (at-least m t q) (both .0) (l .lt))) (less-of t q)))
+      let both = T-and (not (ltZ (negsuc d) x) || at-least m t q) (not (ltZ x (pos 0)) || at-most m t q) h in (
+        λ l. subst (λ v. Leq G v (m .plus q (m .opposite t))) (sym ground)
+            (leq-shift G t q (m .zero) (m .plus q (m .opposite t)) (T-not (m .less q t) (or-out (ltZ x (pos 0)) (at-most m t q) (both .1) (l .lt))) (more-of t q)),
+        λ l. subst (Leq G (m .plus q (m .opposite t))) (sym ground)
+            (leq-shift G q t (m .plus q (m .opposite t)) (m .zero) (T-not (m .less t q) (or-out (ltZ (negsuc d) x) (at-least m t q) (both .0) (l .lt))) (less-of t q)),
+      )
 
   pub fitting-demand : (a : ℕ) (d x : ℤ) → Fitting G p (demand-item m a d) x → T (demand-fits m d x (p (suc a)))
   fitting-demand a (pos zero) x h = tt
@@ -189,9 +190,9 @@ module _ (m : Meaning) (laws : Laws m) (p : ℕ → m .Value) (ground : p 0 ≡ 
       let q = p (suc a) in
       and-T (not (ltZ (negsuc d) x) || at-least m t q) (not (ltZ x (pos 0)) || at-most m t q)
       (or-in (ltZ (negsuc d) x) (at-least m t q)
-       (λ l. not-T (m .less t q) (leq-shift G (m .plus q (m .opposite t)) (m .zero) q t (subst (Leq G (m .plus q (m .opposite t))) ground (h .1 (record { lt = l }))) (back-less t q))))
+      (λ l. not-T (m .less t q) (leq-shift G (m .plus q (m .opposite t)) (m .zero) q t (subst (Leq G (m .plus q (m .opposite t))) ground (h .1 (record { lt = l }))) (back-less t q))))
       (or-in (ltZ x (pos 0)) (at-most m t q)
-       (λ l. not-T (m .less q t) (leq-shift G (m .zero) (m .plus q (m .opposite t)) t q (subst (λ v. Leq G v (m .plus q (m .opposite t))) ground (h .0 (record { lt = l }))) (sym (more-of t q)))))
+      (λ l. not-T (m .less q t) (leq-shift G (m .zero) (m .plus q (m .opposite t)) t q (subst (λ v. Leq G v (m .plus q (m .opposite t))) ground (h .0 (record { lt = l }))) (sym (more-of t q)))))
 
   pub border-fitting : (b : Border) (x : ℤ) → T (border-fits m b x (p (suc (b .from))) (p (suc (b .to)))) → Fitting G p (border-item m b) x
   border-fitting b x h =

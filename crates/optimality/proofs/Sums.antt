@@ -21,7 +21,7 @@ use Rattle.market.specs.declared.book.Border.{Border}
 use Rattle.market.specs.declared.book.Bid.{Bid}
 use Rattle.market.specs.Cases.{Case, areas}
 use Rattle.market.specs.Selections.{Selection, injected, brought, flows-into, activated-in, net}
-use Rattle.market.specs.Totals.{bid-cost, satisfied-total, activated-total, total} 
+use Rattle.market.specs.Totals.{bid-cost, satisfied-total, activated-total, total}
 use Rattle.market.specs.Totals as Totals
 use Rattle.optimality.proofs.Groups.{Group, plus-zero}
 use Rattle.optimality.proofs.Multiples.{times, scaled, scaled-neg, scaled-times, scaled-of-opposite, scaled-of-zero}
@@ -75,9 +75,9 @@ module _ (m : Meaning) (c : Case) (s : Selection) (sized : Sized c s) where
       each-append P ds (bs ++ map (bid-item m) (c .bids)) (amounts s)
       (each-same P ds (listed (s .satisfied)) (amounts s) (λ k h. sym (listed-left (s .satisfied) rest k (subst (λ n. k < n) (sym ds-long) h))) (parts .demands))
       (subst (Each P (bs ++ map (bid-item m) (c .bids))) (sym (shift-listed ds (s .satisfied) rest ds-long))
-       (each-append P bs (map (bid-item m) (c .bids)) (listed rest)
-        (each-same P bs (listed (s .flows)) (listed rest) (λ k h. sym (listed-left (s .flows) (map pos (s .activated)) k (subst (λ n. k < n) (sym bs-long) h))) (parts .borders))
-        (subst (Each P (map (bid-item m) (c .bids))) (sym (shift-listed bs (s .flows) (map pos (s .activated)) bs-long)) (parts .bids))))
+      (each-append P bs (map (bid-item m) (c .bids)) (listed rest)
+      (each-same P bs (listed (s .flows)) (listed rest) (λ k h. sym (listed-left (s .flows) (map pos (s .activated)) k (subst (λ n. k < n) (sym bs-long) h))) (parts .borders))
+      (subst (Each P (map (bid-item m) (c .bids))) (sym (shift-listed bs (s .flows) (map pos (s .activated)) bs-long)) (parts .bids))))
 
   pub to-parts : (P : Item (m .Value) → ℤ → Type 0) → Each P (items m c) (amounts s) → Parts m P c s
   unfolding rest ds bs
@@ -85,30 +85,30 @@ module _ (m : Meaning) (c : Case) (s : Selection) (sized : Sized c s) where
       let behind : Each P (bs ++ map (bid-item m) (c .bids)) (listed rest) = subst (Each P (bs ++ map (bid-item m) (c .bids))) (shift-listed ds (s .satisfied) rest ds-long) (each-right P ds (bs ++ map (bid-item m) (c .bids)) (amounts s) each) in
       record {
         demands =
-          each-same P ds (amounts s) (listed (s .satisfied)) (λ k h. listed-left (s .satisfied) rest k (subst (λ n. k < n) (sym ds-long) h))
-          (each-left P ds (bs ++ map (bid-item m) (c .bids)) (amounts s) each);
+            each-same P ds (amounts s) (listed (s .satisfied)) (λ k h. listed-left (s .satisfied) rest k (subst (λ n. k < n) (sym ds-long) h))
+            (each-left P ds (bs ++ map (bid-item m) (c .bids)) (amounts s) each);
         borders =
-          each-same P bs (listed rest) (listed (s .flows)) (λ k h. listed-left (s .flows) (map pos (s .activated)) k (subst (λ n. k < n) (sym bs-long) h))
-          (each-left P bs (map (bid-item m) (c .bids)) (listed rest) behind);
+            each-same P bs (listed rest) (listed (s .flows)) (λ k h. listed-left (s .flows) (map pos (s .activated)) k (subst (λ n. k < n) (sym bs-long) h))
+            (each-left P bs (map (bid-item m) (c .bids)) (listed rest) behind);
         bids =
-          subst (Each P (map (bid-item m) (c .bids))) (shift-listed bs (s .flows) (map pos (s .activated)) bs-long)
-          (each-right P bs (map (bid-item m) (c .bids)) (listed rest) behind);
+            subst (Each P (map (bid-item m) (c .bids))) (shift-listed bs (s .flows) (map pos (s .activated)) bs-long)
+            (each-right P bs (map (bid-item m) (c .bids)) (listed rest) behind);
       }
 
   pub gather-parts : (H : Group) (f : Item (m .Value) → H .Value) →
       gather H f (items m c) (amounts s)
       ≡ H .plus (gather H f (demand-items m 0 (c .demands)) (listed (s .satisfied)))
-        (H .plus (gather H f (map (border-item m) (c .borders)) (listed (s .flows))) (gather H f (map (bid-item m) (c .bids)) (listed (map pos (s .activated)))))
+      (H .plus (gather H f (map (border-item m) (c .borders)) (listed (s .flows))) (gather H f (map (bid-item m) (c .bids)) (listed (map pos (s .activated)))))
   unfolding rest ds bs
   gather-parts H f =
       gather-append H f ds (bs ++ map (bid-item m) (c .bids)) (amounts s)
       ∙ ap₂ (H .plus)
       (gather-same H f ds (amounts s) (listed (s .satisfied)) (λ k h. listed-left (s .satisfied) rest k (subst (λ n. k < n) (sym ds-long) h)))
       (ap (gather H f (bs ++ map (bid-item m) (c .bids))) (shift-listed ds (s .satisfied) rest ds-long)
-       ∙ gather-append H f bs (map (bid-item m) (c .bids)) (listed rest)
-       ∙ ap₂ (H .plus)
-       (gather-same H f bs (listed rest) (listed (s .flows)) (λ k h. listed-left (s .flows) (map pos (s .activated)) k (subst (λ n. k < n) (sym bs-long) h)))
-       (ap (gather H f (map (bid-item m) (c .bids))) (shift-listed bs (s .flows) (map pos (s .activated)) bs-long)))
+      ∙ gather-append H f bs (map (bid-item m) (c .bids)) (listed rest)
+      ∙ ap₂ (H .plus)
+      (gather-same H f bs (listed rest) (listed (s .flows)) (λ k h. listed-left (s .flows) (map pos (s .activated)) k (subst (λ n. k < n) (sym bs-long) h)))
+      (ap (gather H f (map (bid-item m) (c .bids))) (shift-listed bs (s .flows) (map pos (s .activated)) bs-long)))
 
 -- ---- totals
 module _ (m : Meaning) (laws : Laws m) where
@@ -148,7 +148,7 @@ module _ (m : Meaning) (laws : Laws m) where
   activated-is (b ∷ bs) (x ∷ xs) e =
       ap₂ (m .plus)
       (times-is x (bid-cost m (b .direction) (b .price)) ∙ sym (scaled-times G x (bid-cost m (b .direction) (b .price)))
-       ∙ ap (scaled G (pos x)) (bid-cost-is (b .direction) (b .area) (b .volume) (b .price)))
+      ∙ ap (scaled G (pos x)) (bid-cost-is (b .direction) (b .area) (b .volume) (b .price)))
       (activated-is bs xs (omega arith))
 
   borders-free : (bs : List Border) (x : ℕ → ℤ) → gather G (λ i. i .cost) (map (border-item m) bs) x ≡ m .zero
@@ -159,8 +159,8 @@ module _ (m : Meaning) (laws : Laws m) where
   total-is c s sized b =
       ap₂ (m .plus) (satisfied-is 0 (c .demands) (s .satisfied) (sized .satisfied-count) (to-parts m c s sized InBounds b .demands))
       (activated-is (c .bids) (s .activated) (sized .activated-count)
-       ∙ sym (laws .zero-plus (gather G (λ i. i .cost) (map (bid-item m) (c .bids)) (listed (map pos (s .activated)))))
-       ∙ ap (λ v. m .plus v (gather G (λ i. i .cost) (map (bid-item m) (c .bids)) (listed (map pos (s .activated))))) (sym (borders-free (c .borders) (listed (s .flows)))))
+      ∙ sym (laws .zero-plus (gather G (λ i. i .cost) (map (bid-item m) (c .bids)) (listed (map pos (s .activated)))))
+      ∙ ap (λ v. m .plus v (gather G (λ i. i .cost) (map (bid-item m) (c .bids)) (listed (map pos (s .activated))))) (sym (borders-free (c .borders) (listed (s .flows)))))
       ∙ sym (gather-parts m c s sized G (λ i. i .cost))
 
 -- ---- balances
