@@ -10,3 +10,5 @@ pub mod Records
 pub mod FittingIsUnbeaten
 pub mod Walks
 pub mod Potentials
+pub mod Moves
+pub mod Grounded
