@@ -12,3 +12,5 @@ pub mod Walks
 pub mod Potentials
 pub mod Moves
 pub mod Grounded
+pub mod BestHasPrices
+pub mod UnbeatenHasPrices
