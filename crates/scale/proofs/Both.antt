@@ -1,0 +1,15 @@
+-- Two tests at once.
+use mathlib.Core.Bool.{Bool, true, false, _&&_}
+use lib.Dec.{T}
+
+pub both : (x y : Bool) → T x → T y → T (x && y)
+both true y p q = q
+both false y p q = p
+
+pub first-of : (x y : Bool) → T (x && y) → T x
+first-of true y p = tt
+first-of false y p = p
+
+pub second-of : (x y : Bool) → T (x && y) → T y
+second-of true y p = p
+second-of false y p = absurd p

@@ -1,0 +1,4 @@
+pub mod Singles
+pub mod Pairs
+pub mod Bytes
+mod Both
