@@ -14,3 +14,4 @@ pub mod Moves
 pub mod Grounded
 pub mod BestHasPrices
 pub mod UnbeatenHasPrices
+pub mod Exactly
