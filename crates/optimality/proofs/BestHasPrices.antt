@@ -1,13 +1,13 @@
--- Amounts of a family of items have prices that fit, in range, or there are better ones. Assumes nothing.
+-- Amounts of a family of items have prices that fit, made of few costs, or there are better amounts. Assumes nothing.
 --
 --     open-steps      the steps that the bounds leave room for
---     Free      an item between two nodes that are not the ground costs nothing
---     Fitted      prices that fit every item, zero at the ground, in range
+--     Costs      P holds of an item's cost at the ground and of its opposite, R of those of an item between other nodes
+--     Fitted      prices that fit every item, zero at the ground, each made of at most one cost at the ground and of costs between other nodes
 use mathlib.Core.Path.{_≡_, refl, sym, ap, subst, _∙_}
 use mathlib.Core.Bool.{Bool, true, false}
 use mathlib.Core.List.{List, [], _∷_}
 use mathlib.Core.Logic.{_⊎_, inl, inr}
-use Prim.Native.Nat.{ℕ, zero, suc, _<_}
+use Prim.Native.Nat.{ℕ, zero, suc, _+_, _<_}
 use native.Mathlib.Omega.{arith}
 use lib.Dec.{T}
 use lib.IntN.{ℤ}
@@ -18,21 +18,23 @@ use Rattle.std.proofs.shelf.Tests.{cases-eq}
 use Rattle.std.proofs.shelf.Lists.{getD-default}
 use Rattle.std.proofs.shelf.Elements.{all-getD, all-weaker}
 use Rattle.optimality.proofs.Groups.{Group, Less, Leq, leq-shift}
-use Rattle.optimality.proofs.Multiples.{opposite-twice, opposite-zero, Sum, nil, var, _⊕_, neg, solve}
+use Rattle.optimality.proofs.Multiples.{opposite-twice, Sum, nil, var, _⊕_, neg, solve}
 use Rattle.optimality.proofs.Families.{Each}
 use Rattle.optimality.proofs.Items.{Item, InBounds, Fitting, Known}
 use Rattle.optimality.proofs.Walks.{Arcs, In}
 use Rattle.optimality.proofs.Moves.{Step, raise, lower, place, residual, Open, Better, better}
-use Rattle.optimality.proofs.Grounded.{Tight, Loop, tight-or-loop}
+use Rattle.optimality.proofs.Grounded.{Made, Tight, Loop, tight-or-loop}
 
-abbrev pub Free : (G : Group) → Item (G .Value) → Type 0
-Free G i = (i .tail ≡ 0 → ⊥) → (i .head ≡ 0 → ⊥) → i .cost ≡ G .zero
+pub record Costs (G : Group) (P R : G .Value → Type 0) (i : Item (G .Value)) : Type 0 where
+  pub at-tail : i .tail ≡ 0 → P (i .cost) × P (G .opposite (i .cost))
+  pub at-head : i .head ≡ 0 → P (i .cost) × P (G .opposite (i .cost))
+  pub between : (i .tail ≡ 0 → ⊥) → (i .head ≡ 0 → ⊥) → R (i .cost) × R (G .opposite (i .cost))
 
-pub record Fitted (G : Group) (Q : G .Value → Type 0) (is : List (Item (G .Value))) (n : ℕ) (x : ℕ → ℤ) : Type 0 where
+pub record Fitted (G : Group) (P R : G .Value → Type 0) (is : List (Item (G .Value))) (n : ℕ) (x : ℕ → ℤ) : Type 0 where
   pub price : ℕ → G .Value
   pub at-ground : price 0 ≡ G .zero
   pub fitting : Each (Fitting G price) is x
-  pub ranged : (v : ℕ) → v < suc n → Q (price v)
+  pub made : (v : ℕ) → v < suc n → Made G P R (n + n) (price v)
 
 abbrev keep-if : Bool → Step → List Step → List Step
 keep-if true s rest = s ∷ rest
@@ -102,18 +104,20 @@ module _ (G : Group) (is : List (Item (G .Value))) (d : Item (G .Value)) (x : �
   here : (P : Item (G .Value) → Type 0) → All P is → (k : ℕ) → k < len → P (getD is k d)
   here P all k h = all-getD P is k d h all
 
-  module _ (Q : G .Value → Type 0) (n : ℕ) (none : Q (G .zero)) (costs : All (λ i. Q (i .cost) × Q (G .opposite (i .cost))) is) (known : All (Known (suc n)) is) (free : All (Free G) is) where
-    out : (s : Step) → place s < len → Q (N .cost s)
-    out (raise k) h = here (λ i. Q (i .cost) × Q (G .opposite (i .cost))) costs k h .0
-    out (lower k) h = here (λ i. Q (i .cost) × Q (G .opposite (i .cost))) costs k h .1
+  module _ (P R : G .Value → Type 0) (n : ℕ) (costs : All (Costs G P R) is) (known : All (Known (suc n)) is) where
+    out : (s : Step) → place s < len → N .from s ≡ 0 → P (N .cost s)
+    out (raise k) h e = here (Costs G P R) costs k h .at-tail e .0
+    out (lower k) h e = here (Costs G P R) costs k h .at-head e .1
 
-    into : (s : Step) → place s < len → Q (G .opposite (N .cost s))
-    into (raise k) h = here (λ i. Q (i .cost) × Q (G .opposite (i .cost))) costs k h .1
-    into (lower k) h = subst Q (sym (opposite-twice G (getD is k d .cost))) (here (λ i. Q (i .cost) × Q (G .opposite (i .cost))) costs k h .0)
+    into : (s : Step) → place s < len → N .to s ≡ 0 → P (G .opposite (N .cost s))
+    into (raise k) h e = here (Costs G P R) costs k h .at-head e .1
+    into (lower k) h e = subst P (sym (opposite-twice G (getD is k d .cost))) (here (Costs G P R) costs k h .at-tail e .0)
 
-    inner : (s : Step) → place s < len → (N .from s ≡ 0 → ⊥) → (N .to s ≡ 0 → ⊥) → N .cost s ≡ G .zero
-    inner (raise k) h a b = here (Free G) free k h a b
-    inner (lower k) h a b = ap (G .opposite) (here (Free G) free k h b a) ∙ opposite-zero G
+    inner : (s : Step) → place s < len → (N .from s ≡ 0 → ⊥) → (N .to s ≡ 0 → ⊥) → R (N .cost s) × R (G .opposite (N .cost s))
+    inner (raise k) h a b = here (Costs G P R) costs k h .between a b
+    inner (lower k) h a b =
+        let r = here (Costs G P R) costs k h .between b a in
+        (r .1, subst R (sym (opposite-twice G (getD is k d .cost))) (r .0))
 
     source : (s : Step) → place s < len → N .from s < suc n
     source (raise k) h = here (Known (suc n)) known k h .1
@@ -123,7 +127,7 @@ module _ (G : Group) (is : List (Item (G .Value))) (d : Item (G .Value)) (x : �
     target (raise k) h = here (Known (suc n)) known k h .0
     target (lower k) h = here (Known (suc n)) known k h .1
 
-    fitted : Tight G N Q (open-steps len) n → Fitted G Q is n x
+    fitted : Tight G N P R (open-steps len) n → Fitted G P R is n x
     fitted t =
         record {
           price = t .price;
@@ -138,19 +142,19 @@ module _ (G : Group) (is : List (Item (G .Value))) (d : Item (G .Value)) (x : �
                     leq-shift G a (G .plus b (G .opposite c)) (G .plus a c) b (t .fits (lower k) (opened len (lower k) h l))
                     (solve G (a ∷ b ∷ c ∷ []) ((var 0 ⊕ var 2) ⊕ (var 1 ⊕ neg (var 2))) (var 0 ⊕ var 1) tt),
               );
-          ranged = t .ranged;
+          made = t .made;
         }
 
-    pub fitted-or-better : Each InBounds is x → Fitted G Q is n x ⊎ Better G is x
+    pub fitted-or-better : Each InBounds is x → Fitted G P R is n x ⊎ Better G is x
     fitted-or-better within =
-        go (tight-or-loop G N Q (open-steps len) n none
-        (among (λ s. N .from s ≡ 0 → Q (N .cost s)) len (λ s h o e. out s h))
-        (among (λ s. N .to s ≡ 0 → Q (G .opposite (N .cost s))) len (λ s h o e. into s h))
-        (among (λ s. (N .from s ≡ 0 → ⊥) → (N .to s ≡ 0 → ⊥) → N .cost s ≡ G .zero) len (λ s h o. inner s h))
+        go (tight-or-loop G N P R (open-steps len) n
+        (among (λ s. N .from s ≡ 0 → P (N .cost s)) len (λ s h o. out s h))
+        (among (λ s. N .to s ≡ 0 → P (G .opposite (N .cost s))) len (λ s h o. into s h))
+        (among (λ s. (N .from s ≡ 0 → ⊥) → (N .to s ≡ 0 → ⊥) → R (N .cost s) × R (G .opposite (N .cost s))) len (λ s h o. inner s h))
         (among (λ s. N .from s < suc n) len (λ s h o. source s h))
         (among (λ s. N .to s < suc n) len (λ s h o. target s h)))
       where
-        go : Tight G N Q (open-steps len) n ⊎ Loop G N (open-steps len) → Fitted G Q is n x ⊎ Better G is x
+        go : Tight G N P R (open-steps len) n ⊎ Loop G N (open-steps len) → Fitted G P R is n x ⊎ Better G is x
         go (inl t) = inl (fitted t)
         go (inr l) =
             inr

@@ -10,7 +10,7 @@
 use mathlib.Core.Path.{_≡_, refl, sym, ap, subst, subst₂, _∙_}
 use mathlib.Core.List.{List, [], _∷_}
 use mathlib.Core.Logic.{_⊎_, inl, inr}
-use Prim.Native.Nat.{ℕ, zero, suc, _<_, _≤_}
+use Prim.Native.Nat.{ℕ, zero, suc, _+_, _<_, _≤_}
 use native.Mathlib.Omega.{arith}
 use lib.ListN.{length}
 use Rattle.std.specs.shelf.Lists.{All}
@@ -20,12 +20,12 @@ use Rattle.optimality.proofs.Groups.{Group, Less, Leq, leq-or-less, less-leq-t
 use Rattle.optimality.proofs.Multiples.{Sum, nil, var, _⊕_, neg, solve}
 use Rattle.optimality.proofs.Walks.{Arcs, In, Ends, Off, Simple, spent, Walk, Part, part, few, rows, in-rows, rows-inside, Least, None, find-least}
 
-both : {P Q : Type 0} → P ⊎ (P → ⊥) → Q ⊎ (Q → ⊥) → (P × Q) ⊎ (P × Q → ⊥)
+pub both : {P Q : Type 0} → P ⊎ (P → ⊥) → Q ⊎ (Q → ⊥) → (P × Q) ⊎ (P × Q → ⊥)
 both (inl p) (inl q) = inl (p, q)
 both (inl p) (inr q) = inr (λ h. q (h .1))
 both (inr p) q = inr (λ h. p (h .0))
 
-apart : {P : Type 0} → P ⊎ (P → ⊥) → (P → ⊥) ⊎ ((P → ⊥) → ⊥)
+pub apart : {P : Type 0} → P ⊎ (P → ⊥) → (P → ⊥) ⊎ ((P → ⊥) → ⊥)
 apart (inl p) = inr (λ f. f p)
 apart (inr f) = inl f
 
@@ -34,11 +34,11 @@ module _ (G : Group) {A : Type 0} (N : Arcs G A) where
   dec-ends u v [] = cases-eq u v
   dec-ends u v (a ∷ w) = both (cases-eq (N .to a) v) (dec-ends u (N .from a) w)
 
-  dec-off : (v : ℕ) (w : List A) → Off G N v w ⊎ (Off G N v w → ⊥)
+  pub dec-off : (v : ℕ) (w : List A) → Off G N v w ⊎ (Off G N v w → ⊥)
   dec-off v [] = inl tt
   dec-off v (a ∷ w) = both (apart (cases-eq (N .to a) v)) (dec-off v w)
 
-  dec-simple : (w : List A) → Simple G N w ⊎ (Simple G N w → ⊥)
+  pub dec-simple : (w : List A) → Simple G N w ⊎ (Simple G N w → ⊥)
   dec-simple [] = inl tt
   dec-simple (a ∷ w) = both (dec-off (N .to a) w) (dec-simple w)
 
@@ -85,7 +85,9 @@ module _ (G : Group) {A : Type 0} (N : Arcs G A) where
     module _ (targets : (a : A) → In a arcs → N .to a < n) where
       listed : (v : ℕ) (w : List A) → Walk G N arcs g v w → In w (rows n arcs)
       listed v w walk =
-          in-rows n arcs w (walk .inside) (few G N n w (walk .simple) (all-weaker (λ a. In a arcs) (λ a. N .to a < n) targets w (walk .inside)))
+          in-rows n arcs w (walk .inside)
+          (few G N 0 n w (walk .simple) (all-weaker (λ a. In a arcs) (λ a. 0 ≤ N .to a) (λ a i. omega arith) w (walk .inside))
+          (all-weaker (λ a. In a arcs) (λ a. N .to a < 0 + n) (λ a i. omega (arith, targets a i)) w (walk .inside)))
 
       reached : (v : ℕ) (w : List A) → Walk G N arcs g v w → Reached v
       unfolding price

@@ -6,7 +6,7 @@
 -- walk to the arc's start passes the arc's end, and what it does after that closes with the arc into a cycle of negative cost that
 -- enters no node twice. One kilowatt moved along that cycle stays within the limits, keeps every balance, and costs less: a
 -- selection that beats this one. So in an unbeaten selection no arc undercuts, and that is what fitting means.
--- In range: give every area one more arc from the ground, at the largest lower bound that an arc into the ground asks. It makes no
+-- In range: give every area one more arc from the ground, at the largest lower bound that a walk into the ground asks. It makes no
 -- negative cycle, and borders cost nothing, so each price is zero, one unit cost, or the opposite of one.
 use mathlib.Core.Path.{_≡_, refl, sym, ap, ap₂, subst, subst₂, _∙_}
 use mathlib.Core.Bool.{Bool, true, false, not, _&&_}
@@ -42,7 +42,8 @@ use Rattle.optimality.proofs.Sums.{Sized, total-is, net-none, net-balances, le
 use Rattle.optimality.proofs.Rules.{T-and, bounds-demand, bounds-flow, bounds-bid, bid-least, fitting-demand, fitting-border, fitting-bid, items-known}
 use Rattle.optimality.proofs.Records.{ByRecord, to-records}
 use Rattle.optimality.proofs.Moves.{Better}
-use Rattle.optimality.proofs.BestHasPrices.{Free, Fitted, fitted-or-better}
+use Rattle.optimality.proofs.Grounded.{Made, sum-of}
+use Rattle.optimality.proofs.BestHasPrices.{Costs, Fitted, fitted-or-better}
 use Rattle.optimality.proofs.FittingIsUnbeaten.{sized, in-bounds}
 
 -- ---- a list of the amounts at the places of a list
@@ -141,62 +142,64 @@ module _ (m : Meaning) (laws : Laws m) where
             (sym (total-is m laws c s (sized c s within) (in-bounds m c s within))) (b .cheaper);
       }
 
-  -- ---- the costs of the items
-  abbrev Ranged : m .Value → Type 0
-  Ranged v = T (m .in-range v)
+  -- ---- the costs of the items: unit costs at the ground, zero at borders
+  abbrev Zero : m .Value → Type 0
+  Zero v = v ≡ m .zero
 
-  zero-ranged : Ranged (m .zero)
-  zero-ranged = laws .sums-in-range [] tt (omega arith)
+  abbrev Ok : Item (m .Value) → Type 0
+  Ok = Costs G (SignedCost m) Zero
 
-  signed-ranged : (v : m .Value) → SignedCost m v → Ranged v
-  signed-ranged v h = subst Ranged (plus-zero G v) (laws .sums-in-range (v ∷ []) (h, tt) (omega arith))
+  unit-both : (v : m .Value) → UnitCost m v → SignedCost m v × SignedCost m (m .opposite v)
+  unit-both v u = (cost v u, gain v u)
 
-  abbrev Both : Item (m .Value) → Type 0
-  Both i = Ranged (i .cost) × Ranged (m .opposite (i .cost))
+  gain-both : (v : m .Value) → UnitCost m v → SignedCost m (m .opposite v) × SignedCost m (m .opposite (m .opposite v))
+  gain-both v u = (gain v u, subst (SignedCost m) (sym (opposite-twice G v)) (cost v u))
 
-  unit-both : (v : m .Value) → UnitCost m v → Ranged v × Ranged (m .opposite v)
-  unit-both v u = (signed-ranged v (cost v u), signed-ranged (m .opposite v) (gain v u))
+  demand-costs : (a : ℕ) (ds : List ℤ) → All Ok (demand-items m a ds)
+  demand-costs a [] = tt
+  demand-costs a (pos d ∷ ds) = (
+    record { at-tail = λ e. unit-both (m .satisfied) of-satisfied; at-head = λ e. unit-both (m .satisfied) of-satisfied; between = λ t h. absurd (h refl) },
+    demand-costs (suc a) ds,
+  )
+  demand-costs a (negsuc d ∷ ds) = (
+    record { at-tail = λ e. gain-both (m .satisfied) of-satisfied; at-head = λ e. gain-both (m .satisfied) of-satisfied; between = λ t h. absurd (h refl) },
+    demand-costs (suc a) ds,
+  )
 
-  demand-both : (a : ℕ) (ds : List ℤ) → All Both (demand-items m a ds)
-  demand-both a [] = tt
-  demand-both a (pos d ∷ ds) = (unit-both (m .satisfied) of-satisfied, demand-both (suc a) ds)
-  demand-both a (negsuc d ∷ ds) =
-      let b = unit-both (m .satisfied) of-satisfied in
-      ((b .1, subst Ranged (sym (opposite-twice G (m .satisfied))) (b .0)), demand-both (suc a) ds)
+  border-costs : (b : Border) → Ok (border-item m b)
+  border-costs b = record { at-tail = λ e. absurd (omega arith); at-head = λ e. absurd (omega arith); between = λ t h. (refl, opposite-zero G) }
 
-  bid-both-of : (d : Direction) (area volume : ℕ) (price : ℤ) → BidPrice price → Both (bid-item-of m d area volume price)
-  bid-both-of Up area volume price h = unit-both (m .up price) (of-up price h)
-  bid-both-of Down area volume price h = unit-both (m .down price) (of-down price h)
+  bid-costs-of : (d : Direction) (area volume : ℕ) (price : ℤ) → BidPrice price → Ok (bid-item-of m d area volume price)
+  bid-costs-of Up area volume price h =
+      record { at-tail = λ e. unit-both (m .up price) (of-up price h); at-head = λ e. unit-both (m .up price) (of-up price h); between = λ t k. absurd (t refl) }
+  bid-costs-of Down area volume price h =
+      record { at-tail = λ e. unit-both (m .down price) (of-down price h); at-head = λ e. unit-both (m .down price) (of-down price h); between = λ t k. absurd (k refl) }
 
-  bid-both : (b : Bid) → T (bid-in-range b) → Both (bid-item m b)
-  bid-both b h =
+  bid-costs : (b : Bid) → T (bid-in-range b) → Ok (bid-item m b)
+  bid-costs b h =
       let p = T-and (leZ (negsuc 9999899) (b .price)) (leZ (b .price) (pos 9999900)) (T-and (leb (b .volume) 9999000) (leZ (negsuc 9999899) (b .price) && leZ (b .price) (pos 9999900)) h .1) in
-      bid-both-of (b .direction) (b .area) (b .volume) (b .price) (record { least = record { le = p .0 }; most = record { le = p .1 } })
+      bid-costs-of (b .direction) (b .area) (b .volume) (b .price) (record { least = record { le = p .0 }; most = record { le = p .1 } })
 
-  items-both : (c : Case) → Valid c → All Both (items m c)
-  items-both c valid =
-      all-append Both (demand-items m 0 (c .demands)) (map (border-item m) (c .borders) ++ map (bid-item m) (c .bids)) (demand-both 0 (c .demands))
-      (all-append Both (map (border-item m) (c .borders)) (map (bid-item m) (c .bids))
-      (all-map Both (border-item m) (c .borders)
-      (all-weaker (λ b. T (ends-known (areas c) b)) (λ b. Both (border-item m b)) (λ b _. (zero-ranged, subst Ranged (sym (opposite-zero G)) zero-ranged)) (c .borders) (valid .borders-known)))
-      (all-map Both (bid-item m) (c .bids) (all-weaker (λ b. T (bid-in-range b)) (λ b. Both (bid-item m b)) bid-both (c .bids) (valid .bids-in-range))))
+  items-costs : (c : Case) → Valid c → All Ok (items m c)
+  items-costs c valid =
+      all-append Ok (demand-items m 0 (c .demands)) (map (border-item m) (c .borders) ++ map (bid-item m) (c .bids)) (demand-costs 0 (c .demands))
+      (all-append Ok (map (border-item m) (c .borders)) (map (bid-item m) (c .bids))
+      (all-map Ok (border-item m) (c .borders) (all-weaker (λ b. T (ends-known (areas c) b)) (λ b. Ok (border-item m b)) (λ b _. border-costs b) (c .borders) (valid .borders-known)))
+      (all-map Ok (bid-item m) (c .bids) (all-weaker (λ b. T (bid-in-range b)) (λ b. Ok (bid-item m b)) bid-costs (c .bids) (valid .bids-in-range))))
 
-  demand-free : (a : ℕ) (ds : List ℤ) → All (Free G) (demand-items m a ds)
-  demand-free a [] = tt
-  demand-free a (pos d ∷ ds) = (λ t h. absurd (h refl), demand-free (suc a) ds)
-  demand-free a (negsuc d ∷ ds) = (λ t h. absurd (h refl), demand-free (suc a) ds)
+  -- a value so made is in range
+  sum-is : (vs : List (m .Value)) → sum-of G vs ≡ sum m vs
+  sum-is [] = refl
+  sum-is (v ∷ vs) = ap (m .plus v) (sum-is vs)
 
-  bid-free : (d : Direction) (area volume : ℕ) (price : ℤ) → Free G (bid-item-of m d area volume price)
-  bid-free Up area volume price t h = absurd (t refl)
-  bid-free Down area volume price t h = absurd (h refl)
+  sum-zero : (vs : List (m .Value)) → All Zero vs → sum-of G vs ≡ m .zero
+  sum-zero [] h = refl
+  sum-zero (v ∷ vs) h = ap₂ (m .plus) (h .0) (sum-zero vs (h .1)) ∙ laws .zero-plus (m .zero)
 
-  items-free : (c : Case) → Valid c → All (Free G) (items m c)
-  items-free c valid =
-      all-append (Free G) (demand-items m 0 (c .demands)) (map (border-item m) (c .borders) ++ map (bid-item m) (c .bids)) (demand-free 0 (c .demands))
-      (all-append (Free G) (map (border-item m) (c .borders)) (map (bid-item m) (c .bids))
-      (all-map (Free G) (border-item m) (c .borders) (all-weaker (λ b. T (ends-known (areas c) b)) (λ b. Free G (border-item m b)) (λ b _ t h. refl) (c .borders) (valid .borders-known)))
-      (all-map (Free G) (bid-item m) (c .bids)
-      (all-weaker (λ b. T (bid-in-range b)) (λ b. Free G (bid-item m b)) (λ b _. bid-free (b .direction) (b .area) (b .volume) (b .price)) (c .bids) (valid .bids-in-range))))
+  ranged : (k : ℕ) (v : m .Value) → Made G (SignedCost m) Zero k v → T (m .in-range v)
+  ranged k v r =
+      subst (λ x. T (m .in-range x)) (sym (r .is ∙ ap₂ (m .plus) (sum-is (r .outer)) (sum-zero (r .inner) (r .inner-costs)) ∙ plus-zero G (sum m (r .outer))))
+      (laws .sums-in-range (r .outer) (r .outer-costs) (omega (arith, r .few-outer)))
 
   -- ---- the prices
   abbrev priced : (c : Case) → (ℕ → m .Value) → List (m .Value)
@@ -211,13 +214,13 @@ module _ (m : Meaning) (laws : Laws m) where
   to-known : (n : ℕ) (b : Border) → T (ends-known n b) → b .to < n
   to-known n b h = ltb→lt (b .to) n (T-and (ltb (b .to) n) (not (eqb (b .from) (b .to))) (T-and (ltb (b .from) n) (ltb (b .to) n && not (eqb (b .from) (b .to))) h .1) .0)
 
-  fits : (c : Case) → Valid c → (s : Selection) → WithinLimits c s → (f : Fitted G Ranged (items m c) (areas c) (amounts s)) → Fits m c s (priced c (f .price))
+  fits : (c : Case) → Valid c → (s : Selection) → WithinLimits c s → (f : Fitted G (SignedCost m) Zero (items m c) (areas c) (amounts s)) → Fits m c s (priced c (f .price))
   fits c valid s within f =
       let p = f .price in
       let r = to-records m (Fitting G p) c s (sized c s within) (f .fitting) in
       record {
         prices-count = length-map-counting (λ a. p (suc a)) 0 (areas c);
-        in-range = λ a h. subst Ranged (sym (price-of c p a h)) (f .ranged (suc a) (omega arith));
+        in-range = λ a h. subst (λ x. T (m .in-range x)) (sym (price-of c p a h)) (ranged (areas c + areas c) (p (suc a)) (f .made (suc a) (omega arith)));
         demands = λ a h.
             subst (λ q. T (demand-fits m (getD (c .demands) a (pos 0)) (getD (s .satisfied) a (pos 0)) q)) (sym (price-of c p a h))
             (fitting-demand m laws p (f .at-ground) a (getD (c .demands) a (pos 0)) (getD (s .satisfied) a (pos 0)) (r .demands a h));
@@ -236,8 +239,8 @@ module _ (m : Meaning) (laws : Laws m) where
 
   pub unbeaten-has-prices : Unbeaten-has-prices m
   unbeaten-has-prices c valid s best =
-      go (fitted-or-better G (items m c) (demand-item m 0 (pos 0)) (amounts s) Ranged (areas c) zero-ranged (items-both c valid) (items-known m c valid) (items-free c valid) (in-bounds m c s (best .within)))
+      go (fitted-or-better G (items m c) (demand-item m 0 (pos 0)) (amounts s) (SignedCost m) Zero (areas c) (items-costs c valid) (items-known m c valid) (in-bounds m c s (best .within)))
     where
-      go : Fitted G Ranged (items m c) (areas c) (amounts s) ⊎ Better G (items m c) (amounts s) → (prices : List (m .Value)) × Fits m c s prices
+      go : Fitted G (SignedCost m) Zero (items m c) (areas c) (amounts s) ⊎ Better G (items m c) (amounts s) → (prices : List (m .Value)) × Fits m c s prices
       go (inl f) = (priced c (f .price), fits c valid s (best .within) f)
       go (inr b) = absurd (best .best (chosen m c (b .amount)) (beats c s (best .within) b))

@@ -11,7 +11,7 @@
 use mathlib.Core.Path.{_≡_, refl, sym, ap, subst, _∙_}
 use mathlib.Core.List.{List, [], _∷_, _++_, map}
 use mathlib.Core.Logic.{_⊎_, inl, inr}
-use Prim.Native.Nat.{ℕ, zero, suc, _<_, _≤_}
+use Prim.Native.Nat.{ℕ, zero, suc, _+_, _<_, _≤_}
 use native.Mathlib.Omega.{arith}
 use lib.ListN.{length}
 use Rattle.std.specs.shelf.Lists.{All}
@@ -114,38 +114,40 @@ module _ (G : Group) {A : Type 0} (N : Arcs G A) where
             costs = ap (G .plus (N .cost a)) (p .costs) ∙ sym (G .plus-assoc (N .cost a) (spent (p .late)) (spent (p .early)));
           })
 
-  -- ---- a simple walk among n nodes has at most n arcs
-  record Thin (n : ℕ) (w : List A) : Type 0 where
+  -- ---- a simple walk that enters only nodes from low to low + n - 1 has at most n arcs
+  record Thin (low n : ℕ) (w : List A) : Type 0 where
     rest : List A
     simple : Simple rest
-    below : All (λ a. N .to a < n) rest
+    above : All (λ a. low ≤ N .to a) rest
+    below : All (λ a. N .to a < low + n) rest
     kept : (x : ℕ) → Off x w → Off x rest
     short : length w ≤ suc (length rest)
-    same : Off n w → length w ≤ length rest
+    same : Off (low + n) w → length w ≤ length rest
 
-  thin : (n : ℕ) (w : List A) → Simple w → All (λ a. N .to a < suc n) w → Thin n w
-  thin n [] s b = record { rest = []; simple = tt; below = tt; kept = λ x o. tt; short = omega arith; same = λ o. omega arith }
-  thin n (a ∷ w) s b = go (cases-eq (N .to a) n) (thin n w (s .1) (b .1))
+  thin : (low n : ℕ) (w : List A) → Simple w → All (λ a. low ≤ N .to a) w → All (λ a. N .to a < low + suc n) w → Thin low n w
+  thin low n [] s l b = record { rest = []; simple = tt; above = tt; below = tt; kept = λ x o. tt; short = omega arith; same = λ o. omega arith }
+  thin low n (a ∷ w) s l b = go (cases-eq (N .to a) (low + n)) (thin low n w (s .1) (l .1) (b .1))
     where
-      go : (N .to a ≡ n) ⊎ (N .to a ≡ n → ⊥) → Thin n w → Thin n (a ∷ w)
+      go : (N .to a ≡ low + n) ⊎ (N .to a ≡ low + n → ⊥) → Thin low n w → Thin low n (a ∷ w)
       go (inl e) t =
-          let l : length w ≤ length (t .rest) = t .same (subst (λ x. Off x w) e (s .0)) in
-          record { rest = t .rest; simple = t .simple; below = t .below; kept = λ x o. t .kept x (o .1); short = omega arith; same = λ o. absurd (o .0 e) }
+          let k : length w ≤ length (t .rest) = t .same (subst (λ x. Off x w) e (s .0)) in
+          record { rest = t .rest; simple = t .simple; above = t .above; below = t .below; kept = λ x o. t .kept x (o .1); short = omega arith; same = λ o. absurd (o .0 e) }
       go (inr d) t =
-          let l : N .to a < suc n = b .0 in
+          let k : N .to a < low + suc n = b .0 in
           record {
             rest = a ∷ t .rest;
             simple = (t .kept (N .to a) (s .0), t .simple);
+            above = (l .0, t .above);
             below = (omega arith, t .below);
             kept = λ x o. (o .0, t .kept x (o .1));
             short = omega (arith, t .short);
             same = λ o. omega (arith, t .same (o .1));
           }
 
-  pub few : (n : ℕ) (w : List A) → Simple w → All (λ a. N .to a < n) w → length w ≤ n
-  few zero [] s b = omega arith
-  few zero (a ∷ w) s b = absurd (omega (arith, b .0))
-  few (suc n) w s b = let t = thin n w s b in omega (arith, t .short, few n (t .rest) (t .simple) (t .below))
+  pub few : (low n : ℕ) (w : List A) → Simple w → All (λ a. low ≤ N .to a) w → All (λ a. N .to a < low + n) w → length w ≤ n
+  few low zero [] s l b = omega arith
+  few low zero (a ∷ w) s l b = absurd (omega (arith, l .0, b .0))
+  few low (suc n) w s l b = let t = thin low n w s l b in omega (arith, t .short, few low n (t .rest) (t .simple) (t .above) (t .below))
 
 -- ---- all rows of at most k things
 module _ {A : Type 0} where
