@@ -3,7 +3,7 @@
 --     open-steps      the steps that the bounds leave room for
 --     Costs      P holds of an item's cost at the ground and of its opposite, R of those of an item between other nodes
 --     Fitted      prices that fit every item, zero at the ground, each made of at most one cost at the ground and of costs between other nodes
-use mathlib.Core.Path.{_≡_, refl, sym, ap, subst, _∙_}
+use mathlib.Core.Path.{_≡_, refl, sym, subst}
 use mathlib.Core.Bool.{Bool, true, false}
 use mathlib.Core.List.{List, [], _∷_}
 use mathlib.Core.Logic.{_⊎_, inl, inr}
@@ -12,13 +12,13 @@ use native.Mathlib.Omega.{arith}
 use lib.Dec.{T}
 use lib.IntN.{ℤ}
 use lib.ListN.{length, getD}
-use lib.Signed.{ltZ, _<ℤ_}
+use lib.Signed.{ltZ}
 use Rattle.std.specs.shelf.Lists.{All}
 use Rattle.std.proofs.shelf.Tests.{cases-eq}
 use Rattle.std.proofs.shelf.Lists.{getD-default}
 use Rattle.std.proofs.shelf.Elements.{all-getD, all-weaker}
-use Rattle.optimality.proofs.Groups.{Group, Less, Leq, leq-shift}
-use Rattle.optimality.proofs.Multiples.{opposite-twice, Sum, nil, var, _⊕_, neg, solve}
+use Rattle.optimality.proofs.Groups.{Group, leq-shift}
+use Rattle.optimality.proofs.Multiples.{opposite-twice, var, _⊕_, neg, solve}
 use Rattle.optimality.proofs.Families.{Each}
 use Rattle.optimality.proofs.Items.{Item, InBounds, Fitting, Known}
 use Rattle.optimality.proofs.Walks.{Arcs, In}

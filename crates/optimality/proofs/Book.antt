@@ -4,24 +4,17 @@
 --     demand-item, border-item, bid-item      each record as an item; the area a is the node a + 1
 --     items      all of a case
 --     amounts      a selection's amounts, in the same order
-use mathlib.Core.Path.{_≡_, refl, sym, ap, ap₂, subst, _∙_}
-use mathlib.Core.Bool.{Bool, true, false, cond, not, _&&_, _||_}
 use mathlib.Core.List.{List, [], _∷_, _++_, map}
-use Prim.Native.Nat.{ℕ, zero, suc, _+_, _<_}
-use native.Mathlib.Omega.{arith}
-use lib.Dec.{T, eqb, ltb}
-use lib.IntN.{ℤ, pos, negsuc, _+ℤ_, negℤ, natAbs}
-use lib.ListN.{length, getD}
-use lib.Signed.{_≤ℤ_, _<ℤ_}
-use borrow.Author.Differences.{ints}
+use Prim.Native.Nat.{ℕ, zero, suc}
+use lib.IntN.{ℤ, pos, negsuc, negℤ}
+use lib.ListN.{getD}
 use Rattle.scale.specs.Meaning.{Meaning, Laws}
 use Rattle.market.specs.declared.book.Direction.{Direction}
 use Rattle.market.specs.declared.book.Direction.the-variants.{Up, Down}
 use Rattle.market.specs.declared.book.Border.{Border}
 use Rattle.market.specs.declared.book.Bid.{Bid}
-use Rattle.market.specs.Cases.{Case, areas, Valid}
-use Rattle.market.specs.Selections.{Selection, WithinLimits}
-use Rattle.market.specs.Totals.{bid-cost}
+use Rattle.market.specs.Cases.{Case}
+use Rattle.market.specs.Selections.{Selection}
 use Rattle.optimality.proofs.Groups.{Group}
 use Rattle.optimality.proofs.Items.{Item}
 

@@ -5,20 +5,19 @@
 --     shift      the amounts behind those of a list
 --     Each      what holds of every item with its amount
 --     at      the amounts that are zero but at one place
-use mathlib.Core.Path.{_≡_, refl, sym, ap, ap₂, subst, _∙_}
-use mathlib.Core.Bool.{Bool, true, false, cond}
+use mathlib.Core.Path.{_≡_, refl, sym, ap, ap₂, _∙_}
 use mathlib.Core.List.{List, [], _∷_, _++_}
 use mathlib.Core.Logic.{_⊎_, inl, inr}
 use Prim.Native.Nat.{ℕ, zero, suc, _+_, _<_}
 use native.Mathlib.Omega.{arith}
 use lib.Dec.{T}
-use lib.IntN.{ℤ, pos, negsuc, _+ℤ_, negℤ}
+use lib.IntN.{ℤ, pos, _+ℤ_, negℤ}
 use lib.ListN.{length, getD}
 use lib.Signed.{ltZ}
 use borrow.Author.Differences.{up, down, ints, same-in, lt-in}
 use Rattle.std.proofs.shelf.Tests.{cases-order}
 use Rattle.optimality.proofs.Groups.{Group, plus-zero, plus-cross}
-use Rattle.optimality.proofs.Multiples.{times, scaled, scaled-plus, scaled-neg, scaled-zero, scaled-of-sum, scaled-of-opposite, scaled-of-zero, weigh, weigh-plus, weigh-neg, weigh-none, opposite-zero, opposite-of-sum}
+use Rattle.optimality.proofs.Multiples.{times, scaled, scaled-plus, scaled-neg, scaled-zero, scaled-of-sum, scaled-of-opposite, scaled-of-zero, weigh, weigh-plus, weigh-none, opposite-zero, opposite-of-sum}
 
 pub whole-total : (x y : ℤ) → (x ≡ y) ⊎ (T (ltZ x y) ⊎ T (ltZ y x))
 whole-total x y = go (cases-order (up x + down y) (up y + down x))
@@ -87,10 +86,6 @@ module _ (G : Group) {I : Type 0} where
   pub gather-none : (f : I → Value) (is : List I) → gather G f is (λ k. pos 0) ≡ G .zero
   gather-none f [] = refl
   gather-none f (i ∷ is) = ap₂ plus (scaled-zero G (f i)) (gather-none f is) ∙ zero-plus (G .zero)
-
-  pub gather-of-zero : (is : List I) (x : ℕ → ℤ) → gather G (λ (i : I). G .zero) is x ≡ G .zero
-  gather-of-zero [] x = refl
-  gather-of-zero (i ∷ is) x = ap₂ plus (scaled-of-zero G (x 0)) (gather-of-zero is (λ k. x (suc k))) ∙ zero-plus (G .zero)
 
   pub gather-at : (f : I → Value) (is : List I) (j : ℕ) (z : ℤ) (d : I) → j < length is → gather G f is (at j z) ≡ scaled G z (f (getD is j d))
   gather-at f [] j z d h = absurd (omega arith)

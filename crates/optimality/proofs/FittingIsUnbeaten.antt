@@ -7,25 +7,25 @@
 -- since an amount can grow only from below its upper bound, and fall only from above its lower bound. Added up over
 -- the items, the prices count each area's change of balance, and there is none: both selections balance every area.
 -- What is left is the difference of the two totals, and it is at least zero. So nothing beats the selection.
-use mathlib.Core.Path.{_≡_, refl, sym, ap, subst₂, _∙_}
+use mathlib.Core.Path.{refl, sym, subst₂, _∙_}
 use mathlib.Core.List.{List}
 use Prim.Native.Nat.{ℕ, zero, suc, _<_}
 use native.Mathlib.Omega.{arith}
-use lib.IntN.{ℤ, pos}
-use lib.ListN.{length, getD}
+use lib.IntN.{pos}
+use lib.ListN.{getD}
 use Rattle.scale.specs.Meaning.{Meaning, Laws}
 use Rattle.market.specs.Cases.{Case, areas, Valid}
 use Rattle.market.specs.Selections.{Selection, WithinLimits}
-use Rattle.market.specs.Totals.{total, Unbeaten}
+use Rattle.market.specs.Totals.{total}
 use Rattle.market.specs.Prices.{Fits}
 use Rattle.optimality.specs.Theorem.{Fitting-is-unbeaten}
-use Rattle.optimality.proofs.Groups.{Group, Leq}
+use Rattle.optimality.proofs.Groups.{Leq}
 use Rattle.optimality.proofs.Families.{Each}
-use Rattle.optimality.proofs.Items.{Item, InBounds, Fitting, net-at, no-cheaper}
+use Rattle.optimality.proofs.Items.{InBounds, Fitting, no-cheaper}
 use Rattle.optimality.proofs.Book.{of-meaning, items, amounts}
 use Rattle.optimality.proofs.Sums.{Sized, total-is, net-none}
 use Rattle.optimality.proofs.Rules.{demand-bounds, flow-bounds, bid-bounds, demand-fitting, border-fitting, bid-fitting, items-known}
-use Rattle.optimality.proofs.Records.{ByRecord, from-records, to-records}
+use Rattle.optimality.proofs.Records.{from-records}
 
 -- the ground's price is zero
 abbrev pub node-price : (m : Meaning) → List (m .Value) → ℕ → m .Value

@@ -10,7 +10,7 @@
 -- The added arcs make no cycle of negative cost: such a cycle would leave the ground by an added arc and come back by a walk that asks
 -- no more than the bound. So each price is the cost of a simple walk from the ground: its first arc costs one cost at the ground, or the
 -- bound, which is zero or the opposite of what one walk into the ground costs; its other arcs lie between other nodes.
-use mathlib.Core.Path.{_≡_, refl, sym, ap, ap₂, subst, subst₂, _∙_}
+use mathlib.Core.Path.{_≡_, refl, sym, ap, ap₂, subst, _∙_}
 use mathlib.Core.List.{List, [], _∷_, map}
 use mathlib.Core.Logic.{_⊎_, inl, inr}
 use Prim.Native.Nat.{ℕ, zero, suc, _+_, _<_, _≤_}
@@ -20,7 +20,7 @@ use Rattle.std.specs.shelf.Lists.{All}
 use Rattle.std.proofs.shelf.Tests.{cases-eq}
 use Rattle.std.proofs.shelf.Elements.{all-weaker}
 use Rattle.optimality.proofs.Groups.{Group, Less, Leq, leq-shift, plus-zero}
-use Rattle.optimality.proofs.Multiples.{opposite-zero, opposite-of-sum, Sum, nil, var, _⊕_, neg, solve}
+use Rattle.optimality.proofs.Multiples.{opposite-zero, opposite-of-sum, nil, var, _⊕_, neg, solve}
 use Rattle.optimality.proofs.Walks.{Arcs, In, Ends, Off, Simple, spent, Walk, few, rows, in-rows, rows-inside, in-map, Least, None, find-least}
 use Rattle.optimality.proofs.Potentials.{both, apart, dec-off, dec-simple, Cycle, Prices, prices-or-cycle}
 

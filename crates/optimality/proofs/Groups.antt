@@ -1,5 +1,5 @@
 -- An ordered commutative group, its order with equality allowed, and how an order moves along an equation. Assumes nothing.
-use mathlib.Core.Path.{_≡_, refl, sym, ap, ap₂, subst, subst₂, _∙_}
+use mathlib.Core.Path.{_≡_, sym, ap, subst, subst₂, _∙_}
 use mathlib.Core.Logic.{_⊎_, inl, inr}
 use mathlib.Core.Bool.{Bool}
 use lib.Dec.{T}
@@ -96,11 +96,6 @@ module _ (G : Group) where
   pub leq-plus : (a b c d : Value) → Leq G a b → Leq G c d → Leq G (plus a c) (plus b d)
   leq-plus a b c d h k =
       leq-trans (plus a c) (plus b c) (plus b d) (leq-plus-right a b c h)
-      (subst₂ (Leq G) (plus-comm c b) (plus-comm d b) (leq-plus-right c d b k))
-
-  pub less-leq-plus : (a b c d : Value) → Less G a b → Leq G c d → Less G (plus a c) (plus b d)
-  less-leq-plus a b c d h k =
-      less-leq-trans (plus a c) (plus b c) (plus b d) (less-plus a b c h)
       (subst₂ (Leq G) (plus-comm c b) (plus-comm d b) (leq-plus-right c d b k))
 
   -- the same difference has the same sign

@@ -5,7 +5,7 @@
 --     InBounds      an amount lies between the item's bounds
 --     Fitting      below the upper bound the head is worth at most the tail and the cost, above the lower bound at least that
 --     Known      both ends are nodes below n
-use mathlib.Core.Path.{_≡_, refl, sym, ap, ap₂, subst, subst₂, _∙_}
+use mathlib.Core.Path.{_≡_, refl, sym, ap, ap₂, subst, _∙_}
 use mathlib.Core.Bool.{Bool, true, false, cond}
 use mathlib.Core.List.{List, [], _∷_, _++_}
 use Prim.Native.Nat.{ℕ, zero, suc, _<_}
@@ -17,10 +17,10 @@ use lib.Signed.{_≤ℤ_, _<ℤ_}
 use borrow.Author.Differences.{up, down, ints}
 use Rattle.std.specs.shelf.Lists.{All}
 use Rattle.std.proofs.shelf.Elements.{all-getD}
-use Rattle.optimality.proofs.Groups.{Group, Less, Leq, leq-shift}
-use Rattle.optimality.proofs.Multiples.{times, scaled, scaled-of-sum, scaled-of-zero, scaled-of-opposite, scaled-one, scaled-minus-one, weigh, weigh-plus, weigh-at, Sum, nil, var, _⊕_, neg, solve}
+use Rattle.optimality.proofs.Groups.{Group, Leq, leq-shift}
+use Rattle.optimality.proofs.Multiples.{times, scaled, scaled-of-sum, scaled-of-zero, scaled-of-opposite, scaled-one, scaled-minus-one, weigh, weigh-plus, weigh-at, nil, var, _⊕_, neg, solve}
 use Rattle.optimality.proofs.Families.{whole, gather, Each, shift}
-use Rattle.optimality.proofs.NoCheaper.{Allowed, reduced, Priced, fitting-is-cheapest}
+use Rattle.optimality.proofs.NoCheaper.{reduced, Priced, fitting-is-cheapest}
 
 pub record Item (V : Type 0) : Type 0 where
   pub low : ℤ

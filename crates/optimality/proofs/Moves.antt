@@ -7,26 +7,24 @@
 --     Better      other amounts within the bounds, with the same balances, that cost less
 --
 -- A simple cycle enters no node twice, so it takes no step twice. A step up and a step down of one item cancel.
-use mathlib.Core.Path.{_≡_, refl, sym, ap, ap₂, subst, subst₂, _∙_}
+use mathlib.Core.Path.{_≡_, refl, sym, ap, ap₂, subst, _∙_}
 use mathlib.Core.Bool.{Bool, true, false, cond}
 use mathlib.Core.List.{List, [], _∷_}
 use mathlib.Core.Logic.{_⊎_, inl, inr}
-use Prim.Native.Nat.{ℕ, zero, suc, _+_, _<_, _≤_}
+use Prim.Native.Nat.{ℕ, zero, suc, _+_, _<_}
 use native.Mathlib.Omega.{arith}
-use native.Mathlib.Nat.{zero-add}
-use lib.Dec.{T, eqb}
+use lib.Dec.{eqb}
 use lib.IntN.{ℤ, pos, negsuc, _+ℤ_, negℤ, +ℤ-idr, +ℤ-invr}
 use lib.ListN.{length, getD}
-use lib.Signed.{ltZ, _≤ℤ_, _<ℤ_}
+use lib.Signed.{_≤ℤ_, _<ℤ_}
 use borrow.Author.Differences.{ints}
 use Rattle.std.specs.shelf.Lists.{All}
-use Rattle.std.proofs.shelf.Tests.{cases-eq}
 use Rattle.std.proofs.shelf.Lists.{getD-default}
-use Rattle.optimality.proofs.Groups.{Group, Less, less-shift, plus-zero}
-use Rattle.optimality.proofs.Multiples.{scaled, scaled-one, scaled-minus-one, Sum, nil, var, _⊕_, neg, solve}
+use Rattle.optimality.proofs.Groups.{Group, Less, less-shift}
+use Rattle.optimality.proofs.Multiples.{scaled-one, scaled-minus-one, nil, var, _⊕_, solve}
 use Rattle.optimality.proofs.Families.{whole, gather, gather-plus, gather-none, gather-at, at, Each}
 use Rattle.optimality.proofs.Items.{Item, effect, net-at, InBounds, moved-by}
-use Rattle.optimality.proofs.Walks.{Arcs, In, Ends, Off, Simple, spent}
+use Rattle.optimality.proofs.Walks.{Arcs, Ends, Off, Simple, spent}
 
 pub data Step : Type 0 where
   raise : ℕ → Step
@@ -124,9 +122,6 @@ stays low high x u d m l h e (inr a) (inl b) = (omega (arith, ints, a .0, a .1),
 stays low high x u d m l h e (inr a) (inr b) = (omega (arith, ints, a .0, b .0), omega (arith, ints, a .0, b .0))
 
 module _ (G : Group) (is : List (Item (G .Value))) (d : Item (G .Value)) where
-  abbrev pub item-of : Step → Item (G .Value)
-  item-of s = getD is (place s) d
-
   abbrev from : Step → ℕ
   from (raise k) = getD is k d .tail
   from (lower k) = getD is k d .head

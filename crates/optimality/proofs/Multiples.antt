@@ -4,9 +4,9 @@
 --     weigh      the sum of the first values of a row, each times a whole number of its own
 --     Sum, worth      an expression over the variables 0, 1, .., and its value
 --     solve      two expressions in which every variable stands equally often have one value
-use mathlib.Core.Path.{_≡_, refl, sym, ap, ap₂, subst, _∙_}
+use mathlib.Core.Path.{_≡_, refl, sym, ap, ap₂, _∙_}
 use mathlib.Core.Bool.{Bool, true, false, cond, _&&_}
-use mathlib.Core.List.{List, [], _∷_}
+use mathlib.Core.List.{List}
 use mathlib.Core.Logic.{_⊎_, inl, inr}
 use Prim.Native.Nat.{ℕ, zero, suc, _+_, _<_, _≤_}
 use native.Mathlib.Omega.{arith}
@@ -14,11 +14,11 @@ use native.Mathlib.Nat.{zero-add, suc-add}
 use lib.Dec.{T, eqb}
 use lib.IntN.{ℤ, pos, negsuc, _+ℤ_, negℤ}
 use lib.ListN.{length, getD}
-use lib.Signed.{leZ, _≤ℤ_}
+use lib.Signed.{leZ}
 use borrow.Author.Differences.{up, down, ints, sum-is, neg-is}
 use Rattle.std.proofs.shelf.Tests.{cases-eq, cases-lt, eq-eqb, ne-eqb}
 use Rattle.std.proofs.shelf.Lists.{getD-past}
-use Rattle.optimality.proofs.Groups.{Group, Less, Leq, plus-zero, opposite-plus, plus-cross, plus-cancel, leq-refl, leq-plus, leq-shift}
+use Rattle.optimality.proofs.Groups.{Group, plus-zero, opposite-plus, plus-cross, plus-cancel}
 
 abbrev pub times : (G : Group) → ℕ → G .Value → G .Value
 times G zero v = G .zero

@@ -7,17 +7,16 @@
 -- For any allowed amounts y, (reduced cost) times (y - x) is at least zero item by item: where y > x, x is below its
 -- upper bound; where y < x, above its lower bound. Added up, the total of y less the total of x is at least what the change of the
 -- balances is worth, which is zero.
-use mathlib.Core.Path.{_≡_, refl, sym, ap, ap₂, subst, subst₂, _∙_}
+use mathlib.Core.Path.{_≡_, sym, ap, subst, subst₂, _∙_}
 use mathlib.Core.List.{List, [], _∷_}
 use Prim.Native.Nat.{ℕ, zero, suc, _<_}
 use native.Mathlib.Omega.{arith}
-use lib.IntN.{ℤ, pos, negsuc, _+ℤ_, negℤ, natAbs}
-use lib.ListN.{length, getD}
+use lib.IntN.{ℤ, pos, _+ℤ_, negℤ, natAbs}
 use lib.Signed.{_≤ℤ_, _<ℤ_}
 use borrow.Author.Differences.{ints}
 use Rattle.std.proofs.shelf.Signed.{by-ltZ}
-use Rattle.optimality.proofs.Groups.{Group, Leq, leq-refl, leq-same, leq-plus, leq-shift, leq-trans, plus-zero}
-use Rattle.optimality.proofs.Multiples.{times, scaled, scaled-plus, scaled-times, weigh, weigh-same, Sum, nil, var, _⊕_, neg, solve}
+use Rattle.optimality.proofs.Groups.{Group, Leq, leq-refl, leq-same, leq-plus, leq-shift}
+use Rattle.optimality.proofs.Multiples.{times, scaled, scaled-plus, scaled-times, weigh, weigh-same, nil, var, _⊕_, neg, solve}
 use Rattle.optimality.proofs.Families.{whole, gather, gather-of-sum, gather-of-opposite, weigh-gather, Each}
 
 abbrev pub Allowed : {I : Type 0} → (low high : I → ℤ) → I → ℤ → Type 0

@@ -7,17 +7,16 @@
 -- If an arc from u to v undercuts the price of v, take the best simple walk to u. Where v is not on it, the walk with the arc added is
 -- simple and cheaper than the best one to v, which cannot be. Where v is on it, part the walk at v: its early part is a simple walk to
 -- v, so it costs at least the price of v, and its late part with the arc is a closed walk of negative cost, simple already.
-use mathlib.Core.Path.{_≡_, refl, sym, ap, subst, subst₂, _∙_}
+use mathlib.Core.Path.{_≡_, refl, sym, ap, subst, _∙_}
 use mathlib.Core.List.{List, [], _∷_}
 use mathlib.Core.Logic.{_⊎_, inl, inr}
-use Prim.Native.Nat.{ℕ, zero, suc, _+_, _<_, _≤_}
+use Prim.Native.Nat.{ℕ, zero, _+_, _<_, _≤_}
 use native.Mathlib.Omega.{arith}
-use lib.ListN.{length}
 use Rattle.std.specs.shelf.Lists.{All}
 use Rattle.std.proofs.shelf.Tests.{cases-eq}
 use Rattle.std.proofs.shelf.Elements.{all-weaker}
-use Rattle.optimality.proofs.Groups.{Group, Less, Leq, leq-or-less, less-leq-trans, leq-shift, less-shift}
-use Rattle.optimality.proofs.Multiples.{Sum, nil, var, _⊕_, neg, solve}
+use Rattle.optimality.proofs.Groups.{Group, Less, Leq, leq-or-less, less-leq-trans, less-shift}
+use Rattle.optimality.proofs.Multiples.{nil, var, _⊕_, solve}
 use Rattle.optimality.proofs.Walks.{Arcs, In, Ends, Off, Simple, spent, Walk, Part, part, few, rows, in-rows, rows-inside, Least, None, find-least}
 
 pub both : {P Q : Type 0} → P ⊎ (P → ⊥) → Q ⊎ (Q → ⊥) → (P × Q) ⊎ (P × Q → ⊥)

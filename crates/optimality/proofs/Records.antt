@@ -1,13 +1,13 @@
 -- What holds of every item of a case, said of its demands, borders and bids one by one. Assumes nothing.
-use mathlib.Core.Path.{_≡_, refl, sym, ap, ap₂, subst, subst₂, _∙_}
-use mathlib.Core.List.{List, [], _∷_, _++_, map}
+use mathlib.Core.Path.{_≡_, sym, ap, subst, subst₂}
+use mathlib.Core.List.{List, [], _∷_, map}
 use Prim.Native.Nat.{ℕ, zero, suc, _+_, _<_}
 use native.Mathlib.Omega.{arith}
-use lib.IntN.{ℤ, pos, negsuc}
+use lib.IntN.{ℤ, pos}
 use lib.ListN.{length, getD}
 use Rattle.std.proofs.shelf.Lists.{length-map, getD-map}
 use Rattle.scale.specs.Meaning.{Meaning}
-use Rattle.market.specs.declared.book.Direction.the-variants.{Up, Down}
+use Rattle.market.specs.declared.book.Direction.the-variants.{Up}
 use Rattle.market.specs.declared.book.Border.{Border}
 use Rattle.market.specs.declared.book.Bid.{Bid}
 use Rattle.market.specs.Cases.{Case, areas}
@@ -15,7 +15,7 @@ use Rattle.market.specs.Selections.{Selection}
 use Rattle.optimality.proofs.Families.{Each}
 use Rattle.optimality.proofs.Items.{Item}
 use Rattle.optimality.proofs.Book.{demand-item, demand-items, border-item, bid-item, items, listed, amounts}
-use Rattle.optimality.proofs.Sums.{Sized, Parts, from-parts, to-parts, length-demand-items}
+use Rattle.optimality.proofs.Sums.{Sized, from-parts, to-parts, length-demand-items}
 
 pub record ByRecord (m : Meaning) (P : Item (m .Value) → ℤ → Type 0) (c : Case) (s : Selection) : Type 0 where
   pub demands : (a : ℕ) → a < areas c → P (demand-item m a (getD (c .demands) a (pos 0))) (getD (s .satisfied) a (pos 0))

@@ -3,15 +3,15 @@
 --     demand-bounds, flow-bounds, bid-bounds      an amount is allowed exactly when it is within the item's bounds
 --     demand-fitting, border-fitting, bid-fitting      a price fits exactly when it fits the item
 --     items-known      both ends of every item of a valid case are nodes
-use mathlib.Core.Path.{_≡_, refl, sym, ap, ap₂, subst, subst₂, _∙_}
+use mathlib.Core.Path.{_≡_, refl, sym, ap, subst, subst₂, _∙_}
 use mathlib.Core.Bool.{Bool, true, false, cond, not, _&&_, _||_}
 use mathlib.Core.List.{List, [], _∷_, _++_, map}
 use Prim.Native.Nat.{ℕ, zero, suc, _+_, _<_, _≤_}
 use native.Mathlib.Omega.{arith}
 use lib.Dec.{T, eqb, ltb, leb, leb·zero, leb·suc-zero, ltb→lt, T-not, not-T}
-use lib.IntN.{ℤ, pos, negsuc, _+ℤ_, negℤ, natAbs}
-use lib.ListN.{length, getD}
-use lib.Signed.{ltZ, leZ, _≤ℤ_, _<ℤ_}
+use lib.IntN.{ℤ, pos, negsuc, negℤ, natAbs}
+use lib.ListN.{length}
+use lib.Signed.{ltZ, leZ, _<ℤ_}
 use borrow.Author.Differences.{ints}
 use Rattle.std.specs.Numbers.{maxZ, minZ}
 use Rattle.std.specs.shelf.Lists.{All}
@@ -22,12 +22,12 @@ use Rattle.market.specs.declared.book.Direction.the-variants.{Up, Down}
 use Rattle.market.specs.declared.book.Border.{Border}
 use Rattle.market.specs.declared.book.Bid.{Bid}
 use Rattle.market.specs.Cases.{Case, areas, ends-known, bid-known, Valid}
-use Rattle.market.specs.Selections.{Selection, satisfied-allowed, flow-allowed, activated-allowed}
+use Rattle.market.specs.Selections.{satisfied-allowed, flow-allowed, activated-allowed}
 use Rattle.market.specs.Totals.{bid-cost}
 use Rattle.market.specs.Prices.{at-limits, at-least, at-most, demand-fits, border-fits, bid-priced}
 use Rattle.optimality.proofs.Groups.{Group, Leq, leq-shift, plus-zero}
-use Rattle.optimality.proofs.Multiples.{Sum, nil, var, _⊕_, neg, solve}
-use Rattle.optimality.proofs.Items.{Item, InBounds, Fitting, Known}
+use Rattle.optimality.proofs.Multiples.{nil, var, _⊕_, neg, solve}
+use Rattle.optimality.proofs.Items.{InBounds, Fitting, Known}
 use Rattle.optimality.proofs.Book.{of-meaning, demand-item, demand-items, border-item, bid-item-of, bid-item, items}
 
 pub T-and : (a b : Bool) → T (a && b) → T a × T b

@@ -3,14 +3,13 @@
 --     Sized      a selection has one amount for each record
 --     Parts      what holds of every demand, border and bid with its amount
 use mathlib.Core.Path.{_≡_, refl, sym, ap, ap₂, subst, _∙_}
-use mathlib.Core.Bool.{Bool, true, false, cond, not, _&&_, _||_}
+use mathlib.Core.Bool.{cond}
 use mathlib.Core.List.{List, [], _∷_, _++_, map}
 use Prim.Native.Nat.{ℕ, zero, suc, _+_, _<_}
 use native.Mathlib.Omega.{arith}
-use lib.Dec.{T, eqb, ltb, eqb·suc-suc, eqb·zero-suc}
+use lib.Dec.{eqb, eqb·suc-suc, eqb·zero-suc}
 use lib.IntN.{ℤ, pos, negsuc, _+ℤ_, negℤ, natAbs, +ℤ-idl, +ℤ-idr, +ℤ-invr}
 use lib.ListN.{length, getD}
-use lib.Signed.{_≤ℤ_, _<ℤ_}
 use borrow.Author.Differences.{ints}
 use Rattle.std.proofs.shelf.Tests.{eq-eqb, ne-eqb}
 use Rattle.std.proofs.shelf.Lists.{length-map, getD-append-left}
@@ -23,9 +22,9 @@ use Rattle.market.specs.Cases.{Case, areas}
 use Rattle.market.specs.Selections.{Selection, injected, brought, flows-into, activated-in, net}
 use Rattle.market.specs.Totals.{bid-cost, satisfied-total, activated-total, total}
 use Rattle.market.specs.Totals as Totals
-use Rattle.optimality.proofs.Groups.{Group, plus-zero}
+use Rattle.optimality.proofs.Groups.{Group}
 use Rattle.optimality.proofs.Multiples.{times, scaled, scaled-neg, scaled-times, scaled-of-opposite, scaled-of-zero}
-use Rattle.optimality.proofs.Families.{whole, gather, gather-of-zero, gather-append, gather-same, Each, shift}
+use Rattle.optimality.proofs.Families.{whole, gather, gather-append, gather-same, Each, shift}
 use Rattle.optimality.proofs.Items.{Item, effect, net-at, InBounds, moved-by, each-append, each-left, each-right, each-same}
 use Rattle.optimality.proofs.Book.{of-meaning, demand-item, demand-items, border-item, bid-item-of, bid-item, items, listed, amounts}
 

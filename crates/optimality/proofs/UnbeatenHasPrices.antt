@@ -9,10 +9,10 @@
 -- In range: give every area one more arc from the ground, at the largest lower bound that a walk into the ground asks. It makes no
 -- negative cycle, and borders cost nothing, so each price is zero, one unit cost, or the opposite of one.
 use mathlib.Core.Path.{_≡_, refl, sym, ap, ap₂, subst, subst₂, _∙_}
-use mathlib.Core.Bool.{Bool, true, false, not, _&&_}
+use mathlib.Core.Bool.{not, _&&_}
 use mathlib.Core.List.{List, [], _∷_, _++_, map}
 use mathlib.Core.Logic.{_⊎_, inl, inr}
-use Prim.Native.Nat.{ℕ, zero, suc, _+_, _<_, _≤_}
+use Prim.Native.Nat.{ℕ, zero, suc, _+_, _<_}
 use native.Mathlib.Omega.{arith}
 use lib.Dec.{T, ltb, leb, eqb, ltb→lt}
 use lib.IntN.{ℤ, pos, negsuc, natAbs}
@@ -30,17 +30,17 @@ use Rattle.market.specs.declared.book.Border.{Border}
 use Rattle.market.specs.declared.book.Bid.{Bid}
 use Rattle.market.specs.Cases.{Case, areas, Valid, ends-known, bid-known, bid-in-range}
 use Rattle.market.specs.Selections.{Selection, WithinLimits}
-use Rattle.market.specs.Totals.{total, bid-cost, Beats, Unbeaten}
+use Rattle.market.specs.Totals.{bid-cost, Beats}
 use Rattle.market.specs.Prices.{Fits, demand-fits, border-fits, bid-priced}
 use Rattle.optimality.specs.Theorem.{Unbeaten-has-prices}
 use Rattle.optimality.proofs.Groups.{Group, Less, plus-zero}
 use Rattle.optimality.proofs.Multiples.{opposite-twice, opposite-zero}
-use Rattle.optimality.proofs.Families.{whole, gather, gather-same, Each, shift}
+use Rattle.optimality.proofs.Families.{whole, gather-same, Each, shift}
 use Rattle.optimality.proofs.Items.{Item, effect, net-at, InBounds, Fitting, each-right, each-same}
 use Rattle.optimality.proofs.Book.{of-meaning, demand-item, demand-items, border-item, bid-item-of, bid-item, items, listed, amounts}
 use Rattle.optimality.proofs.Sums.{Sized, total-is, net-none, net-balances, length-demand-items}
 use Rattle.optimality.proofs.Rules.{T-and, bounds-demand, bounds-flow, bounds-bid, bid-least, fitting-demand, fitting-border, fitting-bid, items-known}
-use Rattle.optimality.proofs.Records.{ByRecord, to-records}
+use Rattle.optimality.proofs.Records.{to-records}
 use Rattle.optimality.proofs.Moves.{Better}
 use Rattle.optimality.proofs.Grounded.{Made, sum-of}
 use Rattle.optimality.proofs.BestHasPrices.{Costs, Fitted, fitted-or-better}

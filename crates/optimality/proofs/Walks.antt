@@ -16,7 +16,7 @@ use native.Mathlib.Omega.{arith}
 use lib.ListN.{length}
 use Rattle.std.specs.shelf.Lists.{All}
 use Rattle.std.proofs.shelf.Tests.{cases-eq}
-use Rattle.optimality.proofs.Groups.{Group, Less, Leq, leq-refl, leq-same, leq-trans, less-leq, leq-or-less}
+use Rattle.optimality.proofs.Groups.{Group, Less, Leq, leq-refl, leq-trans, less-leq, leq-or-less}
 
 pub record Arcs (G : Group) (A : Type 0) : Type 0 where
   pub from : A → ℕ
