@@ -1,0 +1,17 @@
+pub mod Groups
+pub mod Multiples
+pub mod Families
+pub mod NoCheaper
+pub mod Items
+pub mod Book
+pub mod Sums
+pub mod Rules
+pub mod Records
+pub mod FittingIsUnbeaten
+pub mod Walks
+pub mod Potentials
+pub mod Moves
+pub mod Grounded
+pub mod BestHasPrices
+pub mod UnbeatenHasPrices
+pub mod Exactly
