@@ -1,4 +1,5 @@
 pub mod Asks
+pub mod Cases
 pub mod Numbers
 pub mod Prices
 pub mod Proposals
