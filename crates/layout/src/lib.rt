@@ -5,6 +5,7 @@ mod proposal;
 mod questions;
 mod reader;
 mod record;
+mod written;
 
 pub use case::load;
 pub use case::read_case;
