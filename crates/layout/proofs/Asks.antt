@@ -1,5 +1,5 @@
 -- Questions in a row: what a yes says of each, and what a no says. Assumes nothing.
-use mathlib.Core.Path.{_≡_, refl, sym, _∙_, ap}
+use mathlib.Core.Path.{_≡_, refl, sym, _∙_, ap, subst}
 use mathlib.Core.Bool.{Bool, true, false, cond, _&&_}
 use Prim.Native.Nat.{ℕ, zero, suc, _+_, _<_, _≤_}
 use native.Mathlib.Decide.{ℕ-discrete}
@@ -8,7 +8,10 @@ use Rattle.std.specs.declared.option.Option.{Option}
 use Rattle.std.specs.declared.option.Option.the-variants.{Some, None}
 use Rattle.std.specs.declared.result.Result.{Result}
 use Rattle.std.specs.declared.result.Result.the-variants.{Ok, Err}
+use Rattle.std.specs.Vec.{made}
+use Rattle.market.specs.declared.refusal.Refusal.{Refusal}
 use Rattle.market.specs.First.{first-no, FirstNo, and-then, ask-one, ask, refused-at}
+use Rattle.layout.specs.Sections.{forget}
 
 first-no-all : (ok : ℕ → Bool) (i n : ℕ) → first-no ok i n ≡ None → (k : ℕ) → i ≤ k → k < i + n → ok k ≡ true
 first-no-all ok i zero none k low high = absurd (omega arith)
@@ -18,6 +21,12 @@ first-no-all ok i (suc n) none k low high = at (ok i) refl none (λ rest above. 
         → (first-no ok (suc i) n ≡ None → suc i ≤ k → ok k ≡ true) → ok k ≡ true
     at true e rest later = elim (ℕ-discrete i k) [ yes same ↦ ap ok (sym same) ∙ e | no other ↦ later rest (omega arith) ]
     at false e rest later = cc
+
+first-no-same : (ok fine : ℕ → Bool) (i n : ℕ) → ((k : ℕ) → i ≤ k → k < i + n → ok k ≡ fine k) → first-no ok i n ≡ first-no fine i n
+first-no-same ok fine i zero same = refl
+first-no-same ok fine i (suc n) same =
+    ap (λ t. cond t (first-no ok (suc i) n) (Some i)) (same i (omega arith) (omega arith))
+    ∙ ap (λ o. cond (fine i) o (Some i)) (first-no-same ok fine (suc i) n (λ k low high. same k (omega arith) (omega arith)))
 
 module _ {E : Type 0} where
   pub and-then-first : (a b : Result (Unit {0}) E) → and-then a b ≡ Ok tt → a ≡ Ok tt
@@ -48,3 +57,11 @@ module _ {E : Type 0} where
   -- where the answer is a yes, the question passes at every place
   pub ask-yes : (ok : ℕ → Bool) (n : ℕ) (refusal : ℕ → E) → ask ok n refusal ≡ Ok tt → (k : ℕ) → k < n → ok k ≡ true
   ask-yes ok n refusal h k below = first-no-all ok 0 n (refused-at-none refusal (first-no ok 0 n) h) k (omega arith) (omega arith)
+
+  -- an answer depends on the places that are asked alone
+  pub ask-same : (ok fine : ℕ → Bool) (n : ℕ) (refusal : ℕ → E) → ((k : ℕ) → k < n → ok k ≡ fine k) → ask ok n refusal ≡ ask fine n refusal
+  ask-same ok fine n refusal same = ap (refused-at refusal) (first-no-same ok fine 0 n (λ k low high. same k (omega arith)))
+
+-- the exit of a `?`: the answer is the refusal, and nothing was made
+pub residual : {X : Type 0} (P : X → Type 0) (r : Result X Refusal) (e : Refusal) (a : Result (Unit {0}) Refusal) → r ≡ Err e → Err e ≡ a → (forget r ≡ a) × made r P
+residual P r e a is no-here = subst (λ (x : Result _ Refusal). (forget x ≡ a) × made x P) (sym is) (no-here, tt)

@@ -1,5 +1,7 @@
 pub mod Asks
+pub mod Cases
 pub mod Numbers
+pub mod Placed
 pub mod Prices
 pub mod Proposals
 pub mod Tables

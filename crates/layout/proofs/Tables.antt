@@ -3,7 +3,7 @@ use mathlib.Core.Path.{_≡_, refl, sym, _∙_, ap}
 use mathlib.Core.Bool.{Bool, true, false, cond}
 use mathlib.Core.List.{List, [], _∷_, _++_}
 use Prim.Native.Nat.{ℕ, zero, suc, _+_, _*_, _/_, _%_, _-_, _<_, _≤_}
-use native.Mathlib.Nat.{mul-zero, mul-suc, mul-le-mul-left, add-comm, add-assoc, div-add-mod}
+use native.Mathlib.Nat.{mul-zero, mul-suc, mul-le-mul-left, add-comm, add-assoc, div-add-mod, mul-div-cancel-left}
 use native.Mathlib.Decide.{decLt}
 use native.Mathlib.Numerals.{add-one}
 use native.Mathlib.Omega.{arith}
@@ -16,7 +16,7 @@ use lib.ListN.{length, take, drop, getD, length-drop}
 use Rattle.std.specs.declared.option.Option.{Option}
 use Rattle.std.specs.declared.option.Option.the-variants.{Some, None}
 use Rattle.std.specs.Options.{valueOr}
-use Rattle.std.proofs.shelf.Lists.{drop-drop, take-rest}
+use Rattle.std.proofs.shelf.Lists.{drop-drop, drop-take, take-take, take-rest, length-take-le}
 use Rattle.std.proofs.shelf.Signed.{toZ-ofZ}
 use Rattle.layout.specs.Bytes.{part, table, records, record-at}
 
@@ -37,6 +37,22 @@ module _ {X : Type 0} (f : List ℕ → X) (s : ℕ) where
   table-push zero bs = ap (λ n. f (part n s bs) ∷ []) (sym (mul-zero s))
   table-push (suc k) bs =
       ap (λ t. f (take s bs) ∷ t) (table-push k (drop s bs) ∙ ap (λ p. table f s k (drop s bs) ++ (f p ∷ [])) (part-later k bs))
+
+  -- a table needs no more bytes than its records take
+  pub table-take : (n : ℕ) (bs : List ℕ) → table f s n (take (s * n) bs) ≡ table f s n bs
+  table-take zero bs = refl
+  table-take (suc n) bs =
+      let size : s * suc n ≡ s + s * n = mul-suc s n ∙ add-comm (s * n) s in
+      let head : take s (take (s * suc n) bs) ≡ take s bs = take-take s (s * suc n) bs (omega arith) in
+      let rest : drop s (take (s * suc n) bs) ≡ take (s * n) (drop s bs) = ap (λ m. drop s (take m bs)) size ∙ drop-take s (s * n) bs in
+      ap (λ x. f x ∷ table f s n (drop s (take (s * suc n) bs))) head
+      ∙ ap (λ x. f (take s bs) ∷ x) (ap (table f s n) rest ∙ table-take n (drop s bs))
+
+  -- the whole records of a part of the bytes
+  pub records-part : (n offset : ℕ) (bs : List ℕ) → 0 < s → offset + s * n ≤ length bs → records f s (part offset (s * n) bs) ≡ table f s n (drop offset bs)
+  records-part n offset bs positive fits =
+      let long : length (part offset (s * n) bs) ≡ s * n = length-take-le (s * n) (drop offset bs) (rw length-drop (omega arith)) in
+      ap (λ m. table f s m (part offset (s * n) bs)) (ap (λ m. m / s) long ∙ mul-div-cancel-left n positive) ∙ table-take n (drop offset bs)
 
   pub length-table : (n : ℕ) (bs : List ℕ) → length (table f s n bs) ≡ n
   length-table zero bs = refl

@@ -10,9 +10,10 @@ use borrow.Author.Tests.{le-leb}
 use Rattle.std.specs.declared.option.Option.the-variants.{Some, None}
 use Rattle.std.proofs.shelf.Lists.{drop-drop}
 use Rattle.scale.specs.Levels.{little-endian}
+use Rattle.layout.specs.declared.header.CaseHeader.{CaseHeader}
 use Rattle.layout.specs.declared.header.ProposalHeader.{ProposalHeader}
 use Rattle.layout.specs.Bytes.{word}
-use Rattle.layout.specs.Headers.{proposal-header-of, proposal-header-in}
+use Rattle.layout.specs.Headers.{case-header-of, case-header-in, proposal-header-of, proposal-header-in}
 
 -- what is left after one more word
 pub left-more : (k : ℕ) (bs r s : List ℕ) → r ≡ drop k bs → s ≡ drop 4 r → s ≡ drop (k + 4) bs
@@ -30,3 +31,10 @@ pub proposal-header-some : (bs : List ℕ) (k a s b f i t l p : ℕ) → 36 ≤ 
 proposal-header-some bs k a s b f i t l p h e0 e1 e2 e3 e4 e5 e6 e7 e8 =
     let same : record { kind = k; areas = a; satisfied = s; borders = b; flows = f; bids = i; activated = t; levels = l; prices = p } ≡ proposal-header-of bs = cc in
     ap Some same ∙ ap (λ t. cond t (Some (proposal-header-of bs)) None) (sym (le-leb 36 (length bs) h))
+
+pub case-header-some : (bs : List ℕ) (k a s b f i t : ℕ) → 28 ≤ length bs → k ≡ word 0 bs → a ≡ word 1 bs → s ≡ word 2 bs → b ≡ word 3 bs
+    → f ≡ word 4 bs → i ≡ word 5 bs → t ≡ word 6 bs
+    → Some record { kind = k; areas = a; «areas_at» = s; borders = b; «borders_at» = f; bids = i; «bids_at» = t } ≡ case-header-in bs
+case-header-some bs k a s b f i t h e0 e1 e2 e3 e4 e5 e6 =
+    let same : record { kind = k; areas = a; «areas_at» = s; borders = b; «borders_at» = f; bids = i; «bids_at» = t } ≡ case-header-of bs = cc in
+    ap Some same ∙ ap (λ t. cond t (Some (case-header-of bs)) None) (sym (le-leb 28 (length bs) h))

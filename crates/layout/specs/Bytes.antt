@@ -7,8 +7,9 @@
 --   records        as many whole records as the bytes hold
 --   record-at      the record at a place, or none
 --   bytes-of       a number as so many bytes
+--   placed         a list with bytes put in at a place
 use mathlib.Core.Bool.{cond}
-use mathlib.Core.List.{List, [], _∷_}
+use mathlib.Core.List.{List, [], _∷_, _++_}
 use Prim.Native.Nat.{ℕ, zero, suc, _+_, _*_, _/_, _%_}
 use lib.Dec.{ltb}
 use lib.IntN.{ℤ}
@@ -41,3 +42,6 @@ record-at record-of size bs k = cond (ltb k (length bs / size)) (Some (record-of
 abbrev pub bytes-of : (width : ℕ) → ℕ → List ℕ
 bytes-of zero n = []
 bytes-of (suc k) n = n % 256 ∷ bytes-of k (n / 256)
+
+abbrev pub placed : ℕ → List ℕ → List ℕ → List ℕ
+placed at bytes out = take at out ++ (bytes ++ drop (at + length bytes) out)

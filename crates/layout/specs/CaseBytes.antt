@@ -2,6 +2,8 @@
 --
 --   case-in         the case that bytes hold, by the counts in their header
 --   written         the bytes of a case
+--   bytes-answer, records-answer
+--                   the questions on the bytes, and those on the records, in order
 --   case-answer     what reading bytes as a case answers: the first question that gets a no, or a yes
 use mathlib.Core.Bool.{Bool, true, false, _&&_, _||_, cond}
 use mathlib.Core.List.{List, [], _∷_, _++_}
@@ -19,9 +21,11 @@ use Rattle.market.specs.declared.trade.Border.{Border}
 use Rattle.market.specs.declared.trade.Bid.{Bid}
 use Rattle.market.specs.declared.refusal.Refusal.{Refusal}
 use Rattle.market.specs.declared.refusal.Refusal.the-variants.{Header, Kind, Count, Offset, Demand, Ends, Limits, Origin, Offer}
-use Rattle.market.specs.Cases.{Case, case-of, demand-at, border-at, bid-at, demand-in-range, ends-known, limits-in-range, bid-known, bid-in-range}
+use Rattle.market.specs.Cases.{Case, case-of, areas, demand-at, border-at, bid-at, demand-in-range, ends-known, limits-in-range, bid-known, bid-in-range}
 use Rattle.market.specs.First.{and-then, ask, ask-one}
+use Rattle.layout.specs.declared.header.CaseHeader.{CaseHeader}
 use Rattle.layout.specs.Bytes.{part, word, signed-word, table, bytes-of}
+use Rattle.layout.specs.Headers.{case-header-of}
 
 -- direction 0 is up, 1 is down
 abbrev pub direction-of : ℕ → Direction
@@ -50,14 +54,23 @@ bid-of bs = record {
 }
 
 -- where each table begins, and where the last ends, by the header's own counts
+abbrev pub borders-start : CaseHeader → ℕ
+borders-start h = 28 + 4 * h .areas
+
+abbrev pub bids-start : CaseHeader → ℕ
+bids-start h = borders-start h + 12 * h .borders
+
+abbrev pub end-by : CaseHeader → ℕ
+end-by h = bids-start h + 12 * h .bids
+
 abbrev pub borders-offset : List ℕ → ℕ
-borders-offset bs = 28 + 4 * word 1 bs
+borders-offset bs = borders-start (case-header-of bs)
 
 abbrev pub bids-offset : List ℕ → ℕ
-bids-offset bs = borders-offset bs + 12 * word 3 bs
+bids-offset bs = bids-start (case-header-of bs)
 
 abbrev pub case-end : List ℕ → ℕ
-case-end bs = bids-offset bs + 12 * word 5 bs
+case-end bs = end-by (case-header-of bs)
 
 abbrev pub case-in : List ℕ → Case
 case-in bs =
@@ -94,28 +107,35 @@ abbrev pub case-size : Case → ℕ
 case-size c = 28 + 4 * length (c .demands) + 12 * length (c .borders) + 12 * length (c .bids)
 
 -- words 1, 3 and 5 are counts within their bounds, with no bids where they take no part
-abbrev pub count-allowed : (bids : Bool) → List ℕ → ℕ → Bool
-count-allowed bids bs k =
-    cond (eqb k 1) (leb (word 1 bs) 48) (cond (eqb k 3) (leb (word 3 bs) 128) (cond (eqb k 5) (leb (word 5 bs) 1024 && (bids || eqb (word 5 bs) 0)) true))
+abbrev pub count-allowed : (bids : Bool) → CaseHeader → ℕ → Bool
+count-allowed bids h k =
+    cond (eqb k 1) (leb (h .areas) 48) (cond (eqb k 3) (leb (h .borders) 128) (cond (eqb k 5) (leb (h .bids) 1024 && (bids || eqb (h .bids) 0)) true))
 
 -- words 2, 4 and 6 are the offsets; place 7 stands for the end
-abbrev pub offset-right : List ℕ → ℕ → Bool
-offset-right bs k =
-    cond (eqb k 2) (eqb (word 2 bs) 28) (cond (eqb k 4) (eqb (word 4 bs) (borders-offset bs)) (cond (eqb k 6) (eqb (word 6 bs) (bids-offset bs))
-    (cond (eqb k 7) (eqb (length bs) (case-end bs)) true)))
+abbrev pub offset-right : CaseHeader → (size : ℕ) → ℕ → Bool
+offset-right h size k =
+    cond (eqb k 2) (eqb (h .«areas_at») 28) (cond (eqb k 4) (eqb (h .«borders_at») (borders-start h)) (cond (eqb k 6) (eqb (h .«bids_at») (bids-start h))
+    (cond (eqb k 7) (eqb size (end-by h)) true)))
 
 -- the direction that bid k's bytes give is 0 or 1
 abbrev pub direction-known : List ℕ → ℕ → Bool
 direction-known bs k = leb (little-endian (part (bids-offset bs + 12 * k + 2) 2 bs)) 1
 
-abbrev pub case-answer : (bids : Bool) → List ℕ → Result (Unit {0}) Refusal
-case-answer bids bs =
+-- the questions on the header, and those on the records
+abbrev pub bytes-answer : (bids : Bool) → List ℕ → Result (Unit {0}) Refusal
+bytes-answer bids bs =
     and-then (ask-one (leb 28 (length bs)) (Header (length bs)))
     (and-then (ask-one (eqb (word 0 bs) 1) Kind)
-    (and-then (ask (count-allowed bids bs) 7 Count)
-    (and-then (ask (offset-right bs) 8 Offset)
-    (and-then (ask (λ k. demand-in-range (demand-at (case-in bs) k)) (word 1 bs) Demand)
-    (and-then (ask (λ k. ends-known (word 1 bs) (border-at (case-in bs) k)) (word 3 bs) Ends)
-    (and-then (ask (λ k. limits-in-range (border-at (case-in bs) k)) (word 3 bs) Limits)
-    (and-then (ask (λ k. bid-known (word 1 bs) (bid-at (case-in bs) k) && direction-known bs k) (word 5 bs) Origin)
-    (ask (λ k. bid-in-range (bid-at (case-in bs) k)) (word 5 bs) Offer))))))))
+    (and-then (ask (count-allowed bids (case-header-of bs)) 7 Count)
+    (ask (offset-right (case-header-of bs) (length bs)) 8 Offset)))
+
+abbrev pub records-answer : Case → (direction-known : ℕ → Bool) → Result (Unit {0}) Refusal
+records-answer c direction-known =
+    and-then (ask (λ k. demand-in-range (demand-at c k)) (areas c) Demand)
+    (and-then (ask (λ k. ends-known (areas c) (border-at c k)) (length (c .borders)) Ends)
+    (and-then (ask (λ k. limits-in-range (border-at c k)) (length (c .borders)) Limits)
+    (and-then (ask (λ k. bid-known (areas c) (bid-at c k) && direction-known k) (length (c .bids)) Origin)
+    (ask (λ k. bid-in-range (bid-at c k)) (length (c .bids)) Offer))))
+
+abbrev pub case-answer : (bids : Bool) → List ℕ → Result (Unit {0}) Refusal
+case-answer bids bs = and-then (bytes-answer bids bs) (records-answer (case-in bs) (direction-known bs))

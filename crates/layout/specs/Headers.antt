@@ -1,5 +1,7 @@
 -- The words of a header, taken all at once.
 --
+--   case-header-of       the seven words of a case's header
+--   case-header-in       the same, where the bytes hold them all
 --   proposal-header-of   the nine words of a proposal's header
 --   proposal-header-in   the same, where the bytes hold them all
 use mathlib.Core.Bool.{cond}
@@ -9,8 +11,23 @@ use lib.Dec.{leb}
 use lib.ListN.{length}
 use Rattle.std.specs.declared.option.Option.{Option}
 use Rattle.std.specs.declared.option.Option.the-variants.{Some, None}
+use Rattle.layout.specs.declared.header.CaseHeader.{CaseHeader}
 use Rattle.layout.specs.declared.header.ProposalHeader.{ProposalHeader}
 use Rattle.layout.specs.Bytes.{word}
+
+abbrev pub case-header-of : List ℕ → CaseHeader
+case-header-of bs = record {
+  kind = word 0 bs;
+  areas = word 1 bs;
+  «areas_at» = word 2 bs;
+  borders = word 3 bs;
+  «borders_at» = word 4 bs;
+  bids = word 5 bs;
+  «bids_at» = word 6 bs;
+}
+
+abbrev pub case-header-in : List ℕ → Option CaseHeader
+case-header-in bs = cond (leb 28 (length bs)) (Some (case-header-of bs)) None
 
 abbrev pub proposal-header-of : List ℕ → ProposalHeader
 proposal-header-of bs = record {

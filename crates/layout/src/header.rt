@@ -5,7 +5,20 @@ ghost use lib.ListN.{length, take, drop};
 ghost use Rattle.std.specs.Options.{Cases};
 ghost use Rattle.std.specs.Slices.{found};
 ghost use Rattle.scale.specs.Levels.{little-endian};
-ghost use Rattle.layout.specs.Headers.{proposal-header-in};
+ghost use Rattle.layout.specs.CaseBytes.{borders-start, bids-start, end-by};
+ghost use Rattle.layout.specs.Headers.{case-header-in, proposal-header-in};
+
+// The words of a case's header, in their order.
+#[derive(Clone, Copy)]
+pub struct CaseHeader {
+    pub kind: u32,
+    pub areas: u32,
+    pub areas_at: u32,
+    pub borders: u32,
+    pub borders_at: u32,
+    pub bids: u32,
+    pub bids_at: u32,
+}
 
 // The words of a proposal's header, in their order.
 #[derive(Clone, Copy)]
@@ -21,6 +34,27 @@ pub struct ProposalHeader {
     pub prices: u32,
 }
 
+// Where the tables of a case begin and end, by its header.
+impl CaseHeader {
+    pub fn borders_start(self) -> usize
+        ensures { λ r. ⌜ r ≡ borders-start self ⌝ }
+    {
+        28 + 4 * self.areas as usize
+    }
+
+    pub fn bids_start(self) -> usize
+        ensures { λ r. ⌜ r ≡ bids-start self ⌝ }
+    {
+        28 + 4 * self.areas as usize + 12 * self.borders as usize
+    }
+
+    pub fn end(self) -> usize
+        ensures { λ r. ⌜ r ≡ end-by self ⌝ }
+    {
+        28 + 4 * self.areas as usize + 12 * self.borders as usize + 12 * self.bids as usize
+    }
+}
+
 // The first word and the bytes behind it, where there are four bytes.
 fn word(bytes: &[u8]) -> Option<(u32, &[u8])>
     ensures cases { λ r. ⌜ Cases r (length (now (bytes .entry)) < 4) (λ x. (4 ≤ length (now (bytes .entry))) × (x .0 ≡ little-endian (take 4 (now (bytes .entry)))) × (x .1 .now ≡ drop 4 (now (bytes .entry)))) ⌝ }
@@ -30,6 +64,28 @@ fn word(bytes: &[u8]) -> Option<(u32, &[u8])>
         return None;
     };
     Some((u32::from_le_bytes([*a, *b, *c, *d]), rest))
+}
+
+// The seven words of a case's header, where the bytes hold them all.
+pub fn case_header(bytes: &[u8]) -> Option<CaseHeader>
+    ensures { λ r. ⌜ r ≡ case-header-in (now (bytes .entry)) ⌝ }
+{
+    let (kind, rest) = word(bytes)?;
+    let (areas, rest) = word(rest)?;
+    let (areas_at, rest) = word(rest)?;
+    let (borders, rest) = word(rest)?;
+    let (borders_at, rest) = word(rest)?;
+    let (bids, rest) = word(rest)?;
+    let (bids_at, _) = word(rest)?;
+    Some(CaseHeader {
+        kind,
+        areas,
+        areas_at,
+        borders,
+        borders_at,
+        bids,
+        bids_at,
+    })
 }
 
 // The nine words of a proposal's header, where the bytes hold them all.

@@ -1,10 +1,17 @@
 // Cases and proposals as bytes.
+mod case;
 mod header;
 mod proposal;
+mod questions;
+mod reader;
 mod record;
+mod written;
 
+pub use case::load;
+pub use case::read_case;
 pub use proposal::Counts;
 pub use proposal::Proposal;
 pub use proposal::Section;
 pub use proposal::keep;
 pub use proposal::read_proposal;
+pub use reader::CaseReader;

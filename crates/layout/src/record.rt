@@ -8,7 +8,12 @@ ghost use lib.ListN.{length, take};
 ghost use Rattle.std.specs.declared.option.Option.the-variants.{Some, None};
 ghost use Rattle.std.specs.Of.Vec.{vec-items, vec-cap};
 ghost use Rattle.scale.specs.Levels.{little-endian};
+ghost use Rattle.layout.specs.CaseBytes.{border-of, bid-of};
+ghost use Rattle.layout.specs.Records.{raw-direction};
 ghost use Rattle.layout.specs.Bytes.{signed-word, records, record-at};
+use market::Bid;
+use market::Border;
+use market::Direction;
 
 pub trait Record: Sized {
     // how many bytes write one, and which one they write
@@ -83,5 +88,80 @@ pub impl Record for u32 as UnsignedAmount {
             return None;
         };
         Some(u32::from_le_bytes([*a, *b, *c, *d]))
+    }
+}
+
+// A border: from and to, forward and backward limit.
+pub impl Record for Border as BorderRecord {
+    ghost size = { 12 };
+
+    ghost reads = { border-of };
+
+    fn size() -> usize {
+        12
+    }
+
+    fn first(bytes: &[u8]) -> Option<Border> {
+        let [a, b, c, d, e, f, g, h, i, j, k, l, ..] = bytes else {
+            return None;
+        };
+        Some(Border {
+            from: u16::from_le_bytes([*a, *b]),
+            to: u16::from_le_bytes([*c, *d]),
+            forward: u32::from_le_bytes([*e, *f, *g, *h]),
+            backward: u32::from_le_bytes([*i, *j, *k, *l]),
+        })
+    }
+}
+
+// A bid: area and direction, volume, price.
+pub impl Record for Bid as BidRecord {
+    ghost size = { 12 };
+
+    ghost reads = { bid-of };
+
+    fn size() -> usize {
+        12
+    }
+
+    fn first(bytes: &[u8]) -> Option<Bid> {
+        let [a, b, c, d, e, f, g, h, i, j, k, l, ..] = bytes else {
+            return None;
+        };
+        Some(Bid {
+            area: u16::from_le_bytes([*a, *b]),
+            direction: if u16::from_le_bytes([*c, *d]) == 0 {
+                Direction::Up
+            } else {
+                Direction::Down
+            },
+            volume: u32::from_le_bytes([*e, *f, *g, *h]),
+            price: i32::from_le_bytes([*i, *j, *k, *l]),
+        })
+    }
+}
+
+// The number that a bid's bytes give as its direction.
+#[derive(Clone, Copy)]
+pub struct BidDirection {
+    pub number: u16,
+}
+
+pub impl Record for BidDirection as DirectionRecord {
+    ghost size = { 12 };
+
+    ghost reads = { raw-direction };
+
+    fn size() -> usize {
+        12
+    }
+
+    fn first(bytes: &[u8]) -> Option<BidDirection> {
+        let [_, _, c, d, _, _, _, _, _, _, _, _, ..] = bytes else {
+            return None;
+        };
+        Some(BidDirection {
+            number: u16::from_le_bytes([*c, *d]),
+        })
     }
 }

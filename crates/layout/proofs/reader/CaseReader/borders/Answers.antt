@@ -1,0 +1,9 @@
+use mathlib.Core.Path.{sym}
+use Prim.Native.Nat.{_/_}
+use lib.ListN.{length}
+use Rattle.layout.specs.CaseBytes.{border-of}
+use Rattle.layout.proofs.Tables.{length-table}
+use Rattle.layout.proofs.reader.CaseReader.borders.Needs as need
+
+pub returns : need.returns
+returns c = sym (length-table border-of 12 (length (c .args .self .now .borders .now) / 12) (c .args .self .now .borders .now))
