@@ -1,3 +1,5 @@
 pub mod Digits
 pub mod Grown
+pub mod Prices
 pub mod Signs
+pub mod Steps

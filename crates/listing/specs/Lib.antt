@@ -1,4 +1,5 @@
 pub mod Figures
 pub mod Growth
 pub mod Lines
+pub mod Payable
 pub mod View

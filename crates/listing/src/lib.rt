@@ -5,6 +5,5 @@ mod text;
 mod total;
 mod writing;
 
-pub use sums::totals;
 pub use text::Text;
 pub use total::Totals;
