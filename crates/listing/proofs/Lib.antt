@@ -1,5 +1,7 @@
 pub mod Digits
 pub mod Grown
 pub mod Prices
+pub mod Rows
 pub mod Signs
+pub mod Standing
 pub mod Steps
