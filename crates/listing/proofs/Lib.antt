@@ -5,3 +5,4 @@ pub mod Rows
 pub mod Signs
 pub mod Standing
 pub mod Steps
+pub mod Whole

@@ -3,7 +3,7 @@
 --   few-areas, few-borders, few-bids                   the bounds of the case
 --   satisfied-count, flows-count, activated-count      one amount for each record
 --   payable                                            the amounts can be paid for
---   Known                                              all of these
+--   Known                                              all of these, and that netted is whole
 use mathlib.Core.Path.{_≡_, sym, subst}
 use mathlib.Core.List.{List}
 use mathlib.Core.Logic.{∥∥₁-elim}
@@ -11,6 +11,7 @@ use Prim.Native.Nat.{ℕ, _≤_, _<_}
 use native.Mathlib.Bridge.{le-prop}
 use native.Mathlib.Nat.{ℕ-set, le-trans}
 use lib.Dec.{T, T-prop, leb, leb→le}
+use lib.IntN.{pos, _+ℤ_, _-ℤ_}
 use lib.ListN.{length, getD}
 use mathlib.Core.Bool.{Bool, true, false, _&&_}
 use Rattle.std.proofs.shelf.Elements.{all-getD}
@@ -19,7 +20,9 @@ use Rattle.market.specs.declared.trade.Bid.{Bid}
 use Rattle.market.specs.Cases.{Case, Valid, areas, bid-in-range, no-bid}
 use Rattle.market.specs.Selections.{Selection, WithinLimits}
 use Rattle.listing.specs.Payable.{Payable}
+use Rattle.listing.specs.Figures.{netted, satisfied-sum, activated-sum}
 use Rattle.listing.specs.View.{case-in, selection-in}
+use Rattle.listing.proofs.Whole.{whole}
 
 module _ (c : Case) (valid : ∥ Valid c ∥₁) where
   pub few-areas : length (c .demands) ≤ 48
@@ -70,6 +73,7 @@ pub record Known (c : Case) (s : Selection) : Type 0 where
   pub flows-count : length (s .flows) ≡ length (c .borders)
   pub activated-count : length (s .activated) ≡ length (c .bids)
   pub payable : Payable (c .bids) (s .activated)
+  pub whole : netted s +ℤ netted s ≡ pos (satisfied-sum s) -ℤ pos (activated-sum s)
 
 pub known : (x : Settled) → Known (case-in x) (selection-in x)
 known x =
@@ -85,6 +89,7 @@ known x =
       flows-count = flows-count c s within;
       activated-count = activated-count c s within;
       payable = payable c s valid within;
+      whole = whole c s valid within;
     }
 
 pub payable-at : {bs cs : List Bid} {xs ys : List ℕ} → bs ≡ cs → xs ≡ ys → Payable cs ys → Payable bs xs

@@ -14,6 +14,7 @@ pub fn totals(standing: &Settled) -> Totals
     ensures satisfied { λ r. ⌜ r .satisfied ≡ satisfied-sum (selection-in (now (standing .entry))) ⌝ }
     ensures activated { λ r. ⌜ r .activated ≡ activated-sum (selection-in (now (standing .entry))) ⌝ }
     ensures netted { λ r. ⌜ r .netted ≡ half (selection-in (now (standing .entry))) ⌝ }
+    ensures whole { λ r. ⌜ r .netted +ℤ r .netted ≡ pos (r .satisfied) -ℤ pos (r .activated) ⌝ }
     ensures cost { λ r. ⌜ r .cost ≡ paid (case-in (now (standing .entry))) (selection-in (now (standing .entry))) ⌝ }
 {
     let satisfied = sum_of_sizes(standing.amounts.satisfied.as_slice());
