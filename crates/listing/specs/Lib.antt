@@ -1,3 +1,4 @@
+pub mod Example
 pub mod Figures
 pub mod Growth
 pub mod Lines
