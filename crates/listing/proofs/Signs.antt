@@ -2,10 +2,12 @@
 --
 --   widened       a number of 32 bits in 64
 --   difference    of two numbers, where it fits
+--   halved        half of a difference
 use mathlib.Core.Path.{_≡_, sym, _∙_, ap}
-use Prim.Native.Nat.{ℕ, _^_, _<_}
+use Prim.Native.Nat.{ℕ, suc, _/_, _^_, _<_}
 use native.Mathlib.Omega.{arith}
-use lib.IntN.{ℤ, pos, _-ℤ_}
+use lib.IntN.{ℤ, pos, negsuc, negℤ, _-ℤ_}
+use lib.Signed.{quotZ}
 use mir.Syntax.{w32, w64}
 use mir.Val.{toZ, ofZ, SFits}
 use Rattle.std.proofs.shelf.Signed.{ints, toZ-ofZ, toZ-pos}
@@ -27,3 +29,17 @@ fits-export m n y f g h = omega (arith, ints)
 
 pub as-signed : (n : ℕ) → n < 2 ^ 62 → toZ w64 n ≡ pos n
 as-signed n h = toZ-pos w64 n (omega arith)
+
+fits-opposite : (n : ℕ) → n < 2 ^ 63 → SFits w64 (negℤ (pos n))
+fits-opposite n h = omega (arith, ints)
+
+fits-half : (z : ℤ) → SFits w64 z → SFits w64 (quotZ z (pos 2))
+fits-half (pos n) f = record { sfits = omega arith }
+fits-half (negsuc n) f = fits-opposite (suc n / 2) (omega arith)
+
+pub halved : (m n : ℕ) → m < 2 ^ 62 → n < 2 ^ 62 → toZ w64 (ofZ w64 (quotZ (toZ w64 (ofZ w64 (toZ w64 m -ℤ toZ w64 n))) (pos 2))) ≡ quotZ (pos m -ℤ pos n) (pos 2)
+halved m n f g =
+    let net = fits-net m n f g in
+    let z = pos m -ℤ pos n in
+    ap (λ y. toZ w64 (ofZ w64 (quotZ y (pos 2)))) (difference (toZ w64 m) (toZ w64 n) (pos m) (pos n) (as-signed m f) (as-signed n g) net)
+    ∙ toZ-ofZ w64 (quotZ z (pos 2)) (fits-half z net)

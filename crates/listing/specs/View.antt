@@ -1,10 +1,23 @@
--- The text that memory holds.
+-- What memory holds.
 --
---   text-of    the bytes of the text
+--   text-of               the bytes of a text
+--   case-in, selection-in
+--                         the case and the selection that stand
 use mathlib.Core.List.{List}
 use Prim.Native.Nat.{ℕ}
+use denote.Ref.{now}
 use Rattle.std.specs.Of.Vec.{vec-items}
+use Rattle.market.specs.declared.settled.Settled.{Settled}
+use Rattle.market.specs.Cases.{Case}
+use Rattle.market.specs.Selections.{Selection}
+use Rattle.market.specs.Held.{held, selected}
 use Rattle.listing.specs.declared.text.Text.{Text}
 
 abbrev pub text-of : Text → List ℕ
 text-of t = vec-items (t .bytes)
+
+abbrev pub case-in : Settled → Case
+case-in s = held (now (s .book))
+
+abbrev pub selection-in : Settled → Selection
+selection-in s = selected (now (s .amounts))

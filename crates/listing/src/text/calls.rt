@@ -2,7 +2,14 @@
 ghost use mathlib.Core.Path.{_≡_};
 ghost use mathlib.Core.List.{[]};
 ghost use Rattle.std.specs.Vec.{made};
-ghost use Rattle.listing.specs.View.{text-of};
+ghost use Rattle.listing.specs.Lines.{listing};
+ghost use Rattle.listing.specs.View.{text-of, case-in, selection-in};
+use crate::lines::push_heading;
+use crate::lines::push_total;
+use crate::tables::push_areas;
+use crate::tables::push_bids;
+use crate::tables::push_flows;
+use crate::tally::totals;
 use crate::text::Text;
 use market::Settled;
 use std::alloc::AllocError;
@@ -19,8 +26,16 @@ impl Text {
     }
 
     // The text becomes the listing of what stands.
-    pub fn render(&mut self, standing: &Settled) {
-        self.bytes.clear();
+    pub fn render(&mut self, standing: &Settled)
+        ensures text { λ _. ⌜ text-of (now (self .exit)) ≡ listing (case-in (now (standing .entry))) (selection-in (now (standing .entry))) ⌝ }
+    {
+        let text = &mut self.bytes;
+        text.clear();
+        push_heading(text);
+        push_areas(text, standing);
+        push_flows(text, standing);
+        push_bids(text, standing);
+        push_total(text, totals(standing));
     }
 
     // No text.
