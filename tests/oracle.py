@@ -147,20 +147,10 @@ def fits(amount, lower, upper, left, right):
     return (not amount < upper or left >= right) and (not amount > lower or left <= right)
 
 
-def submit(scale, case, data):
-    """Questions 1 to 4 and 10 to 17. The selection: satisfied, flows, activated."""
+def ask_limits(case, selection):
+    """Questions 10 to 13."""
     demands, borders, bids = case
-    levels = len(scale)
-    _, (satisfied_at, flow_at, activated_at, price_at) = ask_layout(
-        data, 2, 9,
-        [lambda n: n == len(demands), lambda n: n == len(borders), lambda n: n == len(bids), lambda n: n == levels],
-        lambda n: [4 * n[0], 4 * n[1], 4 * n[2], 8 * n[3] * n[0]])
-    satisfied = [number(data, satisfied_at + 4 * k, 4, signed=True) for k in range(len(demands))]
-    flows = [number(data, flow_at + 4 * k, 4, signed=True) for k in range(len(borders))]
-    activated = [number(data, activated_at + 4 * k, 4) for k in range(len(bids))]
-    prices = [tuple(number(data, price_at + 8 * (levels * k + i), 8, signed=True) for i in range(levels))
-              for k in range(len(demands))]
-
+    satisfied, flows, activated = selection
     for k, demand in enumerate(demands):
         if not min(0, demand) <= satisfied[k] <= max(0, demand):
             raise Refused(10, k)
@@ -174,10 +164,15 @@ def submit(scale, case, data):
         if up_in(case, activated, k) - down_in(case, activated, k) + net_import(case, flows, k) != satisfied[k]:
             raise Refused(13, k)
 
+
+def ask_prices(scale, case, selection, prices):
+    """Questions 14 to 17."""
+    demands, borders, bids = case
+    satisfied, flows, activated = selection
     for k, price in enumerate(prices):
         if not all(-single.most <= level <= single.most for single, level in zip(scale, price)):
             raise Refused(14, k)
-    zero = (0,) * levels
+    zero = (0,) * len(scale)
     t = satisfied_cost(scale)
     for k, demand in enumerate(demands):
         if demand > 0 and not fits(satisfied[k], 0, demand, plus(t, prices[k]), zero):
@@ -193,7 +188,26 @@ def submit(scale, case, data):
         left, right = (u, p) if direction == 0 else (plus(u, p), zero)
         if not fits(activated[k], 0, volume, left, right):
             raise Refused(17, k)
-    return satisfied, flows, activated
+
+
+def submit(scale, case, data):
+    """Questions 1 to 4 and 10 to 17. The selection: satisfied, flows, activated."""
+    demands, borders, bids = case
+    levels = len(scale)
+    _, (satisfied_at, flow_at, activated_at, price_at) = ask_layout(
+        data, 2, 9,
+        [lambda n: n == len(demands), lambda n: n == len(borders), lambda n: n == len(bids), lambda n: n == levels],
+        lambda n: [4 * n[0], 4 * n[1], 4 * n[2], 8 * n[3] * n[0]])
+    satisfied = [number(data, satisfied_at + 4 * k, 4, signed=True) for k in range(len(demands))]
+    flows = [number(data, flow_at + 4 * k, 4, signed=True) for k in range(len(borders))]
+    activated = [number(data, activated_at + 4 * k, 4) for k in range(len(bids))]
+    prices = [tuple(number(data, price_at + 8 * (levels * k + i), 8, signed=True) for i in range(levels))
+              for k in range(len(demands))]
+
+    selection = satisfied, flows, activated
+    ask_limits(case, selection)
+    ask_prices(scale, case, selection, prices)
+    return selection
 
 
 def listing(case, selection):
