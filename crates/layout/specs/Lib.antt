@@ -1,3 +1,5 @@
 pub mod Bytes
+pub mod Headers
 pub mod CaseBytes
 pub mod ProposalBytes
+pub mod Sections

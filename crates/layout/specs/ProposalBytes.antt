@@ -1,6 +1,7 @@
 -- The bytes of a proposal: a header of nine words, then satisfied amounts, flows, activated amounts and prices.
 --
 --   Counts             how many areas, borders and bids a case has
+--   starts             where the sections begin behind the first, and where the last ends
 --   satisfied-part, flows-part, activated-part, prices-part
 --                      the four sections, each a part of the bytes
 --   selection-in       the selection that the bytes hold
@@ -22,9 +23,12 @@ use Rattle.market.specs.declared.refusal.Refusal.the-variants.{Header, Kind, Co
 use Rattle.market.specs.Cases.{Case}
 use Rattle.market.specs.Selections.{Selection}
 use Rattle.market.specs.First.{and-then, ask, ask-one}
+use Rattle.layout.specs.declared.header.ProposalHeader.{ProposalHeader}
 use Rattle.layout.specs.declared.proposal.Counts.{Counts}
+use Rattle.layout.specs.declared.proposal.Starts.{Starts}
 use Rattle.layout.specs.Bytes.{part, word, signed-word, table, bytes-of}
 use Rattle.layout.specs.CaseBytes.{each}
+use Rattle.layout.specs.Headers.{proposal-header-of}
 
 abbrev pub counts-of : Case → Counts
 counts-of c = record { areas = length (c .demands); borders = length (c .borders); bids = length (c .bids) }
@@ -41,6 +45,14 @@ prices-offset n = activated-offset n + 4 * n .bids
 
 abbrev pub proposal-end : Counts → (levels : ℕ) → ℕ
 proposal-end n levels = prices-offset n + 8 * levels * n .areas
+
+abbrev pub starts : Counts → (levels : ℕ) → Starts
+starts n levels = record {
+  flows = flows-offset n;
+  activated = activated-offset n;
+  prices = prices-offset n;
+  end = proposal-end n levels;
+}
 
 -- the four sections
 abbrev pub satisfied-part : Counts → List ℕ → List ℕ
@@ -77,23 +89,23 @@ abbrev pub price-part : (levels : ℕ) → (prices : List ℕ) → (area : ℕ) 
 price-part levels prices area = part (8 * levels * area) (8 * levels) prices
 
 -- words 1, 3 and 5 are the case's counts, word 7 the scale's levels, of which there are at most 16
-abbrev pub count-right : Counts → (levels : ℕ) → List ℕ → ℕ → Bool
-count-right n levels bs k =
-    cond (eqb k 1) (eqb (word 1 bs) (n .areas)) (cond (eqb k 3) (eqb (word 3 bs) (n .borders)) (cond (eqb k 5) (eqb (word 5 bs) (n .bids))
-    (cond (eqb k 7) (leb levels 16 && eqb (word 7 bs) levels) true)))
+abbrev pub count-right : Counts → (levels : ℕ) → ProposalHeader → ℕ → Bool
+count-right n levels h k =
+    cond (eqb k 1) (eqb (h .areas) (n .areas)) (cond (eqb k 3) (eqb (h .borders) (n .borders)) (cond (eqb k 5) (eqb (h .bids) (n .bids))
+    (cond (eqb k 7) (leb levels 16 && eqb (h .levels) levels) true)))
 
 -- words 2, 4, 6 and 8 are the offsets; place 9 stands for the end
-abbrev pub section-right : Counts → (levels : ℕ) → List ℕ → ℕ → Bool
-section-right n levels bs k =
-    cond (eqb k 2) (eqb (word 2 bs) 36) (cond (eqb k 4) (eqb (word 4 bs) (flows-offset n)) (cond (eqb k 6) (eqb (word 6 bs) (activated-offset n))
-    (cond (eqb k 8) (eqb (word 8 bs) (prices-offset n)) (cond (eqb k 9) (eqb (length bs) (proposal-end n levels)) true))))
+abbrev pub section-right : Starts → ProposalHeader → (size : ℕ) → ℕ → Bool
+section-right at h size k =
+    cond (eqb k 2) (eqb (h .satisfied) 36) (cond (eqb k 4) (eqb (h .flows) (at .flows)) (cond (eqb k 6) (eqb (h .activated) (at .activated))
+    (cond (eqb k 8) (eqb (h .prices) (at .prices)) (cond (eqb k 9) (eqb size (at .end)) true))))
 
 abbrev pub proposal-answer : Counts → (levels : ℕ) → List ℕ → Result (Unit {0}) Refusal
 proposal-answer n levels bs =
     and-then (ask-one (leb 36 (length bs)) (Header (length bs)))
     (and-then (ask-one (eqb (word 0 bs) 2) Kind)
-    (and-then (ask (count-right n levels bs) 9 Count)
-    (ask (section-right n levels bs) 10 Offset)))
+    (and-then (ask (count-right n levels (proposal-header-of bs)) 9 Count)
+    (ask (section-right (starts n levels) (proposal-header-of bs) (length bs)) 10 Offset)))
 
 -- the bytes of a selection and of the numbers that write its prices, area by area
 abbrev pub amount-bytes : ℤ → List ℕ

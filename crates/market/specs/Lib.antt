@@ -4,3 +4,4 @@ pub mod Totals
 pub mod Prices
 pub mod First
 pub mod Refusals
+pub mod Held

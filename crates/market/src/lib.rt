@@ -2,6 +2,7 @@
 mod book;
 mod question;
 mod refusal;
+mod settled;
 mod trade;
 
 pub use book::Amounts;
@@ -10,6 +11,7 @@ pub use question::Question;
 pub use question::ask;
 pub use question::first_no;
 pub use refusal::Refusal;
+pub use settled::Settled;
 pub use trade::Bid;
 pub use trade::Border;
 pub use trade::Direction;

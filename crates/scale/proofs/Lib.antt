@@ -1,2 +1,4 @@
 pub mod Singles
-mod Tests
+pub mod Pairs
+pub mod Bytes
+mod Both

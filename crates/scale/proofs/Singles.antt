@@ -22,7 +22,7 @@ use Rattle.scale.specs.Meaning.{Meaning, Laws, UnitCost, SignedCost, BidPrice,
 use Rattle.scale.specs.Meaning.UnitCost.{of-satisfied, of-up, of-down}
 use Rattle.scale.specs.Meaning.SignedCost.{cost, gain}
 use Rattle.scale.specs.Single.{single}
-use Rattle.scale.proofs.Tests.{both, first-of, second-of}
+use Rattle.scale.proofs.Both.{both, first-of, second-of}
 
 pub record Within (n : ℕ) (v : ℤ) : Type 0 where
   pub least : negℤ (pos n) ≤ℤ v

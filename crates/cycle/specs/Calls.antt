@@ -1,0 +1,74 @@
+-- The rules of the calls: what each answers, and what the cycle holds afterwards. A refused call changes nothing.
+--
+--   after             what holds after a call: the new state where it was taken, else the old one
+--   load-answer, loaded
+--                     load replaces the case by the one in its bytes, and ends the standing selection
+--   submit-answer, submitted
+--                     submit makes a fitting selection the standing one
+--   room              whether a text fits a buffer: its length, or the refusal with the bytes needed
+--   put               the buffer afterwards: the text and what lay behind it, or the buffer as it was
+--   write-answer      write puts the bytes of the case into a buffer
+--   release-answer    release puts the listing of what stands into a buffer
+use mathlib.Core.Bool.{Bool, true, false, cond}
+use mathlib.Core.List.{List, _++_}
+use Prim.Native.Nat.{ℕ}
+use lib.Dec.{leb}
+use lib.ListN.{length, drop}
+use Rattle.std.specs.Results.{isOk}
+use Rattle.std.specs.declared.option.Option.{Option}
+use Rattle.std.specs.declared.option.Option.the-variants.{Some, None}
+use Rattle.std.specs.declared.result.Result.{Result}
+use Rattle.std.specs.declared.result.Result.the-variants.{Ok, Err}
+use Rattle.scale.specs.Meaning.{Meaning}
+use Rattle.scale.specs.Levels.{read-bytes}
+use Rattle.market.specs.Cases.{Case}
+use Rattle.market.specs.Selections.{Selection}
+use Rattle.market.specs.First.{and-then}
+use Rattle.market.specs.declared.refusal.Refusal.{Refusal}
+use Rattle.market.specs.declared.refusal.Refusal.the-variants.{NothingStands, Room}
+use Rattle.layout.specs.CaseBytes.{case-answer, case-in, written}
+use Rattle.layout.specs.ProposalBytes.{counts-of, proposal-answer, selection-in, prices-part, price-part}
+use Rattle.fitting.specs.Judged.{judged}
+use Rattle.listing.specs.Lines.{listing}
+use Rattle.cycle.specs.States.{State}
+
+abbrev pub after : {X : Type 0} → Result X Refusal → (old new : State) → State
+after (Ok x) old new = new
+after (Err refusal) old new = old
+
+abbrev pub load-answer : (m : Meaning) → List ℕ → Result (Unit {0}) Refusal
+load-answer m bs = case-answer (m .bids) bs
+
+abbrev pub loaded : List ℕ → State
+loaded bs = record { case = case-in bs; standing = None }
+
+-- the selection in the bytes of a proposal for this case, and the price that they give an area
+abbrev pub proposed : Case → List ℕ → Selection
+proposed c bs = selection-in (counts-of c) bs
+
+abbrev pub price-in : (m : Meaning) → Case → List ℕ → ℕ → Option (m .Value)
+price-in m c bs area = read-bytes m (price-part (m .levels) (prices-part (counts-of c) (m .levels) bs) area)
+
+abbrev pub submit-answer : (m : Meaning) → Case → List ℕ → Result (Unit {0}) Refusal
+submit-answer m c bs =
+    and-then (proposal-answer (counts-of c) (m .levels) bs) (judged m c (proposed c bs) (price-in m c bs))
+
+abbrev pub submitted : Case → List ℕ → State
+submitted c bs = record { case = c; standing = Some (proposed c bs) }
+
+abbrev pub room : List ℕ → (buffer : List ℕ) → Result ℕ Refusal
+room text buffer = cond (leb (length text) (length buffer)) (Ok (length text)) (Err (Room (length text)))
+
+abbrev pub put : List ℕ → (buffer : List ℕ) → List ℕ
+put text buffer = cond (leb (length text) (length buffer)) (text ++ drop (length text) buffer) buffer
+
+abbrev pub write-answer : State → (buffer : List ℕ) → Result ℕ Refusal
+write-answer st buffer = room (written (st .case)) buffer
+
+abbrev pub release-answer : Case → Option Selection → (buffer : List ℕ) → Result ℕ Refusal
+release-answer c None buffer = Err NothingStands
+release-answer c (Some s) buffer = room (listing c s) buffer
+
+abbrev pub released : Case → Option Selection → (buffer : List ℕ) → List ℕ
+released c None buffer = buffer
+released c (Some s) buffer = put (listing c s) buffer

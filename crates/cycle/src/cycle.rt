@@ -1,0 +1,83 @@
+// A cycle, made for one scale of cost.
+ghost use mathlib.Core.Path.{_≡_};
+ghost use Rattle.std.specs.Vec.{made};
+ghost use Rattle.cycle.specs.States.{fresh};
+ghost use Rattle.cycle.specs.Calls.{after, load-answer, loaded, submit-answer, submitted, write-answer, put};
+ghost use Rattle.cycle.specs.View.{view};
+ghost use Rattle.layout.specs.CaseBytes.{written};
+use crate::closed::Closed;
+use crate::holdings::Holdings;
+use layout::Counts;
+use listing::Text;
+use listing::Totals;
+use market::Amounts;
+use market::Book;
+use market::Refusal;
+use market::Settled;
+use scale::Scale;
+use std::alloc::AllocError;
+use std::alloc::Global;
+use std::marker::PhantomData;
+
+// Not `Copy`: `close` takes it away.
+#[derive(Drop)]
+pub struct Cycle<S> {
+    pub(crate) holdings: Holdings,
+    pub(crate) scale: PhantomData<S>,
+}
+
+impl<S: Scale> Cycle<S> {
+    // A fresh cycle, with all memory that it will ever use, or no memory.
+    pub fn new(heap: Global) -> Result<Self, AllocError>
+        ensures fresh { λ r. ⌜ made r (λ c. view c ≡ fresh) ⌝ }
+    {
+        let holdings = Holdings {
+            book: Book::reserve(heap)?,
+            amounts: Amounts::reserve(heap)?,
+            text: Text::reserve(heap)?,
+            stands: false,
+        };
+        Ok(Cycle { holdings, scale: PhantomData })
+    }
+
+    // Replaces the case by the one in the bytes, and ends what stood.
+    pub fn load(&mut self, bytes: &[u8]) -> Result<(), Refusal>
+        ensures answer { λ r. ⌜ r ≡ load-answer (S·Scale .meaning) (now (bytes .entry)) ⌝ }
+        ensures after { λ r. ⌜ view (now (self .exit)) ≡ after r (view (now (self .entry))) (loaded (now (bytes .entry))) ⌝ }
+    {
+        layout::load(&mut self.holdings.book, bytes, S::bids_take_part())?;
+        self.holdings.stands = false;
+        Ok(())
+    }
+
+    // Makes the selection in the bytes the standing one, if the prices sent with it show that nothing beats it.
+    pub fn submit(&mut self, bytes: &[u8]) -> Result<(), Refusal>
+        ensures answer { λ r. ⌜ r ≡ submit-answer (S·Scale .meaning) (view (now (self .entry)) .case) (now (bytes .entry)) ⌝ }
+        ensures after { λ r. ⌜ view (now (self .exit)) ≡ after r (view (now (self .entry))) (submitted (view (now (self .entry)) .case) (now (bytes .entry))) ⌝ }
+    {
+        let counts = Counts {
+            areas: self.holdings.book.demands.len(),
+            borders: self.holdings.book.borders.len(),
+            bids: self.holdings.book.bids.len(),
+        };
+        let proposal = layout::read_proposal(bytes, counts, S::levels())?;
+        fitting::judge::<S>(&self.holdings.book, &proposal)?;
+        layout::keep(&mut self.holdings.amounts, &proposal);
+        self.holdings.stands = true;
+        Ok(())
+    }
+
+    // Puts the bytes of the case into a buffer; says how many they are.
+    pub fn write(&self, out: &mut [u8]) -> Result<usize, Refusal>
+        ensures answer { λ r. ⌜ r ≡ write-answer (view (now (self .entry))) (now (out .entry)) ⌝ }
+        ensures written { λ _. ⌜ now (out .exit) ≡ put (written (view (now (self .entry)) .case)) (now (out .entry)) ⌝ }
+    {
+        layout::write_case(&self.holdings.book, out)
+    }
+
+    // Takes the cycle away and gives a closed one, which can release what stands.
+    pub fn close(self) -> Closed<S>
+    {
+        Closed::of(self.holdings)
+    }
+}

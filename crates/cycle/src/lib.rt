@@ -1,0 +1,8 @@
+// The cycle: it loads a case, takes a proposal whose selection nothing beats, and closes to release the listing.
+mod closed;
+mod cycle;
+mod holdings;
+mod out;
+
+pub use closed::Closed;
+pub use cycle::Cycle;

@@ -1,0 +1,3 @@
+pub mod Balances
+pub mod Passed
+pub mod Settled

@@ -1,0 +1,50 @@
+-- Questions in a row: what a yes says of each, and what a no says. Assumes nothing.
+use mathlib.Core.Path.{_≡_, refl, sym, _∙_, ap}
+use mathlib.Core.Bool.{Bool, true, false, cond, _&&_}
+use Prim.Native.Nat.{ℕ, zero, suc, _+_, _<_, _≤_}
+use native.Mathlib.Decide.{ℕ-discrete}
+use native.Mathlib.Omega.{arith}
+use Rattle.std.specs.declared.option.Option.{Option}
+use Rattle.std.specs.declared.option.Option.the-variants.{Some, None}
+use Rattle.std.specs.declared.result.Result.{Result}
+use Rattle.std.specs.declared.result.Result.the-variants.{Ok, Err}
+use Rattle.market.specs.First.{first-no, FirstNo, and-then, ask-one, ask, refused-at}
+
+first-no-all : (ok : ℕ → Bool) (i n : ℕ) → first-no ok i n ≡ None → (k : ℕ) → i ≤ k → k < i + n → ok k ≡ true
+first-no-all ok i zero none k low high = absurd (omega arith)
+first-no-all ok i (suc n) none k low high = at (ok i) refl none (λ rest above. first-no-all ok (suc i) n rest k above (omega arith))
+  where
+    at : (t : Bool) → ok i ≡ t → cond t (first-no ok (suc i) n) (Some i) ≡ None
+        → (first-no ok (suc i) n ≡ None → suc i ≤ k → ok k ≡ true) → ok k ≡ true
+    at true e rest later = elim (ℕ-discrete i k) [ yes same ↦ ap ok (sym same) ∙ e | no other ↦ later rest (omega arith) ]
+    at false e rest later = cc
+
+module _ {E : Type 0} where
+  pub and-then-first : (a b : Result (Unit {0}) E) → and-then a b ≡ Ok tt → a ≡ Ok tt
+  and-then-first (Ok u) b h = refl
+  and-then-first (Err e) b h = h
+
+  pub and-then-second : (a b : Result (Unit {0}) E) → and-then a b ≡ Ok tt → b ≡ Ok tt
+  and-then-second (Ok u) b h = h
+  and-then-second (Err e) b h = let z : _≡_ {A = ℕ} 0 1 = cc in absurd (omega arith)
+
+  -- one test in front of the rest
+  pub passed : (t : Bool) (e : E) (rest : Result (Unit {0}) E) → t ≡ true → and-then (ask-one t e) rest ≡ rest
+  passed true e rest h = refl
+  passed false e rest h = cc
+
+  pub stopped : (t : Bool) (e : E) (rest : Result (Unit {0}) E) → t ≡ false → and-then (ask-one t e) rest ≡ Err e
+  stopped true e rest h = cc
+  stopped false e rest h = refl
+
+  pub ask-one-yes : (t : Bool) (refusal : E) → ask-one t refusal ≡ Ok tt → t ≡ true
+  ask-one-yes true refusal h = refl
+  ask-one-yes false refusal h = cc
+
+  refused-at-none : (refusal : ℕ → E) (o : Option ℕ) → refused-at refusal o ≡ Ok tt → o ≡ None
+  refused-at-none refusal None h = refl
+  refused-at-none refusal (Some i) h = cc
+
+  -- where the answer is a yes, the question passes at every place
+  pub ask-yes : (ok : ℕ → Bool) (n : ℕ) (refusal : ℕ → E) → ask ok n refusal ≡ Ok tt → (k : ℕ) → k < n → ok k ≡ true
+  ask-yes ok n refusal h k below = first-no-all ok 0 n (refused-at-none refusal (first-no ok 0 n) h) k (omega arith) (omega arith)

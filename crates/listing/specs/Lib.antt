@@ -1,0 +1,4 @@
+pub mod Figures
+pub mod Growth
+pub mod Lines
+pub mod View
