@@ -52,7 +52,7 @@ def wrong_answer(ended, verdict):
     expected = oracle.text(verdict).encode()
     if ended.stdout != expected:
         return "printed %s, expected %s" % (brief(ended.stdout), brief(expected))
-    if (ended.returncode == 0) != (verdict[0] == "taken"):
+    if ended.returncode < 0 or (ended.returncode == 0) != (verdict[0] == "taken"):
         return "status %d after %s" % (ended.returncode, brief(expected))
     return None
 
