@@ -1,3 +1,4 @@
 pub mod States
 pub mod Calls
 pub mod View
+pub mod Totals

@@ -1,11 +1,18 @@
 // A closed cycle: nothing changes it, and it releases what stands.
 ghost use mathlib.Core.Path.{_≡_};
-ghost use Rattle.cycle.specs.Calls.{release-answer, released, write-answer, put};
+ghost use Rattle.market.specs.Held.{held, selected};
+ghost use Rattle.market.specs.Selections.{WithinLimits};
+ghost use Rattle.listing.specs.Lines.{listing};
+ghost use Rattle.listing.specs.View.{text-of};
+ghost use Rattle.cycle.specs.Calls.{release-answer, released};
+ghost use Rattle.cycle.specs.Totals.{standing-totals};
 ghost use Rattle.cycle.specs.View.{closed-view, state-of};
-ghost use Rattle.layout.specs.CaseBytes.{written};
 use crate::holdings::Holdings;
 use crate::out::copy_out;
+use listing::Text;
 use listing::Totals;
+use market::Amounts;
+use market::Book;
 use market::Refusal;
 use market::Settled;
 use std::marker::PhantomData;
@@ -23,16 +30,10 @@ impl<S> Closed<S> {
         Closed { holdings, scale: PhantomData }
     }
 
-    // Puts the bytes of the case into a buffer; says how many they are.
-    pub fn write(&self, out: &mut [u8]) -> Result<usize, Refusal>
-        ensures answer { λ r. ⌜ r ≡ write-answer (closed-view (now (self .entry))) (now (out .entry)) ⌝ }
-        ensures written { λ _. ⌜ now (out .exit) ≡ put (written (closed-view (now (self .entry)) .case)) (now (out .entry)) ⌝ }
-    {
-        layout::write_case(&self.holdings.book, out)
-    }
-
     // The totals of what stands; none where nothing does.
-    pub fn totals(&self) -> Option<Totals> {
+    pub fn totals(&self) -> Option<Totals>
+        ensures { λ r. ⌜ r ≡ standing-totals (closed-view (now (self .entry))) ⌝ }
+    {
         self.holdings.totals()
     }
 
@@ -45,8 +46,15 @@ impl<S> Closed<S> {
         if !self.holdings.stands {
             return Err(Refusal::NothingStands);
         }
-        let standing = Settled { book: &self.holdings.book, amounts: &self.holdings.amounts };
-        self.holdings.text.render(&standing);
+        render(&self.holdings.book, &self.holdings.amounts, &mut self.holdings.text);
         copy_out(self.holdings.text.as_slice(), out)
     }
+}
+
+// The text becomes the listing of what stands.
+fn render(book: &Book, amounts: &Amounts, text: &mut Text)
+    requires { ⌜ ∥ WithinLimits (held (now book)) (selected (now amounts)) ∥₁ ⌝ }
+    ensures { λ _. ⌜ text-of (now (text .exit)) ≡ listing (held (now (book .entry))) (selected (now (amounts .entry))) ⌝ }
+{
+    text.render(&Settled { book, amounts });
 }

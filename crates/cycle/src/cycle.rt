@@ -2,9 +2,9 @@
 ghost use mathlib.Core.Path.{_≡_};
 ghost use Rattle.std.specs.Vec.{made};
 ghost use Rattle.cycle.specs.States.{fresh};
-ghost use Rattle.cycle.specs.Calls.{after, load-answer, loaded, submit-answer, submitted, write-answer, put};
-ghost use Rattle.cycle.specs.View.{view};
-ghost use Rattle.layout.specs.CaseBytes.{written};
+ghost use Rattle.cycle.specs.Calls.{after, load-answer, loaded, submit-answer, submitted};
+ghost use Rattle.cycle.specs.Totals.{standing-totals};
+ghost use Rattle.cycle.specs.View.{view, closed-view};
 use crate::closed::Closed;
 use crate::holdings::Holdings;
 use layout::Counts;
@@ -13,7 +13,6 @@ use listing::Totals;
 use market::Amounts;
 use market::Book;
 use market::Refusal;
-use market::Settled;
 use scale::Scale;
 use std::alloc::AllocError;
 use std::alloc::Global;
@@ -67,16 +66,16 @@ impl<S: Scale> Cycle<S> {
         Ok(())
     }
 
-    // Puts the bytes of the case into a buffer; says how many they are.
-    pub fn write(&self, out: &mut [u8]) -> Result<usize, Refusal>
-        ensures answer { λ r. ⌜ r ≡ write-answer (view (now (self .entry))) (now (out .entry)) ⌝ }
-        ensures written { λ _. ⌜ now (out .exit) ≡ put (written (view (now (self .entry)) .case)) (now (out .entry)) ⌝ }
+    // The totals of what stands; none until a submit is taken.
+    pub fn totals(&self) -> Option<Totals>
+        ensures { λ r. ⌜ r ≡ standing-totals (view (now (self .entry))) ⌝ }
     {
-        layout::write_case(&self.holdings.book, out)
+        self.holdings.totals()
     }
 
     // Takes the cycle away and gives a closed one, which can release what stands.
     pub fn close(self) -> Closed<S>
+        ensures { λ r. ⌜ closed-view r ≡ view self ⌝ }
     {
         Closed::of(self.holdings)
     }

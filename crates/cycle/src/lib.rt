@@ -3,6 +3,7 @@ mod closed;
 mod cycle;
 mod holdings;
 mod out;
+mod standing;
 
 pub use closed::Closed;
 pub use cycle::Cycle;
