@@ -6,3 +6,4 @@ pub mod Prices
 pub mod Proposals
 pub mod Tables
 pub mod Words
+pub mod Buffers

@@ -5,3 +5,4 @@ pub mod Records
 pub mod CaseReaders
 pub mod ProposalBytes
 pub mod Sections
+pub mod Writing

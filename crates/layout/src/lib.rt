@@ -5,6 +5,7 @@ mod proposal;
 mod questions;
 mod reader;
 mod record;
+mod write;
 mod written;
 
 pub use case::load;
@@ -15,3 +16,5 @@ pub use proposal::Section;
 pub use proposal::keep;
 pub use proposal::read_proposal;
 pub use reader::CaseReader;
+pub use write::write_case;
+pub use write::write_proposal;
