@@ -7,8 +7,10 @@
 --                     submit makes a fitting selection the standing one
 --   room              whether a text fits a buffer: its length, or the refusal with the bytes needed
 --   put               the buffer afterwards: the text and what lay behind it, or the buffer as it was
---   write-answer      write puts the bytes of the case into a buffer
---   release-answer    release puts the listing of what stands into a buffer
+--   write-answer, write-after
+--                     write puts the bytes of the case into a buffer
+--   release-answer, released
+--                     release puts the listing of what stands into a buffer
 use mathlib.Core.Bool.{Bool, true, false, cond}
 use mathlib.Core.List.{List, _++_}
 use Prim.Native.Nat.{ℕ}
@@ -26,7 +28,8 @@ use Rattle.market.specs.Selections.{Selection}
 use Rattle.market.specs.First.{and-then}
 use Rattle.market.specs.declared.refusal.Refusal.{Refusal}
 use Rattle.market.specs.declared.refusal.Refusal.the-variants.{NothingStands, Room}
-use Rattle.layout.specs.CaseBytes.{case-answer, case-in, written}
+use Rattle.layout.specs.CaseBytes.{case-answer, case-in}
+use Rattle.layout.specs.Writing.{case-write-answer, case-write-after}
 use Rattle.layout.specs.ProposalBytes.{counts-of, proposal-answer, selection-in, prices-part, price-part}
 use Rattle.fitting.specs.Judged.{judged}
 use Rattle.listing.specs.Lines.{listing}
@@ -62,8 +65,11 @@ room text buffer = cond (leb (length text) (length buffer)) (Ok (length text)) (
 abbrev pub put : List ℕ → (buffer : List ℕ) → List ℕ
 put text buffer = cond (leb (length text) (length buffer)) (text ++ drop (length text) buffer) buffer
 
-abbrev pub write-answer : State → (buffer : List ℕ) → Result ℕ Refusal
-write-answer st buffer = room (written (st .case)) buffer
+abbrev pub write-answer : Case → (buffer : List ℕ) → Result ℕ Refusal
+write-answer c buffer = case-write-answer c buffer
+
+abbrev pub write-after : Case → (buffer : List ℕ) → List ℕ
+write-after c buffer = case-write-after c buffer
 
 abbrev pub release-answer : Case → Option Selection → (buffer : List ℕ) → Result ℕ Refusal
 release-answer c None buffer = Err NothingStands

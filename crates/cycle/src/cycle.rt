@@ -2,7 +2,7 @@
 ghost use mathlib.Core.Path.{_≡_};
 ghost use Rattle.std.specs.Vec.{made};
 ghost use Rattle.cycle.specs.States.{fresh};
-ghost use Rattle.cycle.specs.Calls.{after, load-answer, loaded, submit-answer, submitted};
+ghost use Rattle.cycle.specs.Calls.{after, load-answer, loaded, submit-answer, submitted, write-answer, write-after};
 ghost use Rattle.cycle.specs.Totals.{standing-totals};
 ghost use Rattle.cycle.specs.View.{view, closed-view};
 use crate::closed::Closed;
@@ -22,6 +22,8 @@ use std::marker::PhantomData;
 #[derive(Drop)]
 pub struct Cycle<S> {
     pub(crate) holdings: Holdings,
+    // room for the listing
+    pub(crate) text: Text,
     pub(crate) scale: PhantomData<S>,
 }
 
@@ -33,10 +35,9 @@ impl<S: Scale> Cycle<S> {
         let holdings = Holdings {
             book: Book::reserve(heap)?,
             amounts: Amounts::reserve(heap)?,
-            text: Text::reserve(heap)?,
             stands: false,
         };
-        Ok(Cycle { holdings, scale: PhantomData })
+        Ok(Cycle { holdings, text: Text::reserve(heap)?, scale: PhantomData })
     }
 
     // Replaces the case by the one in the bytes, and ends what stood.
@@ -44,9 +45,12 @@ impl<S: Scale> Cycle<S> {
         ensures answer { λ r. ⌜ r ≡ load-answer (S·Scale .meaning) (now (bytes .entry)) ⌝ }
         ensures after { λ r. ⌜ view (now (self .exit)) ≡ after r (view (now (self .entry))) (loaded (now (bytes .entry))) ⌝ }
     {
-        layout::load(&mut self.holdings.book, bytes, S::bids_take_part())?;
+        // Nothing stands while the book changes; a refusal leaves the book and what stood.
+        let stood = self.holdings.stands;
         self.holdings.stands = false;
-        Ok(())
+        let answer = layout::load(&mut self.holdings.book, bytes, S::bids_take_part());
+        self.holdings.stands = stood && answer.is_err();
+        answer
     }
 
     // Makes the selection in the bytes the standing one, if the prices sent with it show that nothing beats it.
@@ -66,6 +70,14 @@ impl<S: Scale> Cycle<S> {
         Ok(())
     }
 
+    // Puts the bytes of the case into a buffer; says how many they are.
+    pub fn write(&self, out: &mut [u8]) -> Result<usize, Refusal>
+        ensures answer { λ r. ⌜ r ≡ write-answer (view (now (self .entry)) .case) (now (out .entry)) ⌝ }
+        ensures out { λ _. ⌜ now (out .exit) ≡ write-after (view (now (self .entry)) .case) (now (out .entry)) ⌝ }
+    {
+        layout::write_case(&self.holdings.book, out)
+    }
+
     // The totals of what stands; none until a submit is taken.
     pub fn totals(&self) -> Option<Totals>
         ensures { λ r. ⌜ r ≡ standing-totals (view (now (self .entry))) ⌝ }
@@ -77,6 +89,7 @@ impl<S: Scale> Cycle<S> {
     pub fn close(self) -> Closed<S>
         ensures { λ r. ⌜ closed-view r ≡ view self ⌝ }
     {
-        Closed::of(self.holdings)
+        let Cycle { holdings, text, scale } = self;
+        Closed { holdings, text, scale }
     }
 }

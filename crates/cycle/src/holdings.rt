@@ -3,16 +3,14 @@ ghost use mathlib.Core.Path.{_≡_};
 ghost use mathlib.Core.Bool.{true};
 ghost use Rattle.market.specs.Held.{held, selected};
 ghost use Rattle.market.specs.Selections.{WithinLimits};
-use listing::Text;
 use market::Amounts;
 use market::Book;
 
-// The case, the amounts that stand where `stands`, and room for the listing. What stands is within the limits in force.
+// The case, and the amounts that stand where `stands`. What stands is within the limits in force.
 #[derive(Drop)]
 pub struct Holdings {
     pub book: Book,
     pub amounts: Amounts,
-    pub text: Text,
     pub stands: bool,
     ghost within: { (stands ≡ true → ∥ WithinLimits (held book) (selected amounts) ∥₁) },
 }

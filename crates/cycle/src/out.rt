@@ -12,7 +12,6 @@ pub fn copy_out(text: &[u8], out: &mut [u8]) -> Result<usize, Refusal>
     if needed > out.len() {
         return Err(Refusal::Room(needed));
     }
-    let (front, _) = out.split_at_mut(needed);
-    front.copy_from_slice(text);
+    out[0..needed].copy_from_slice(text);
     Ok(needed)
 }
