@@ -2,14 +2,17 @@
 use cycle::Cycle;
 use market::Refusal;
 use scale::Activation;
+use scale::MoneyScale;
 use scale::Netting;
+use scale::PairScale;
+use scale::SatisfactionScale;
 use scale::Scale;
+use scale::VolumeScale;
 use std::alloc::AllocError;
 use std::alloc::Global;
 use std::env;
 use std::error::AnyError;
 use std::fs;
-use std::io;
 use std::io::Write;
 
 const HELP: &str = "usage: verify [CASE PROPOSAL]
@@ -46,7 +49,7 @@ enum Verdict {
 }
 
 fn main(rt: LibcRuntime) -> Result<(), AnyError> {
-    match task(&rt) {
+    match asked(&rt) {
         Ok(Task::Help) => rt.report(say(&rt, HELP)),
         Ok(Task::Version) => rt.report(say(&rt, VERSION)),
         Ok(Task::Verify(case, proposal)) => verify(&rt, case.as_str(), proposal.as_str()),
@@ -58,7 +61,7 @@ fn main(rt: LibcRuntime) -> Result<(), AnyError> {
 }
 
 // Two paths, one flag, or nothing.
-fn task(rt: &LibcRuntime) -> Result<Task, AnyError> {
+fn asked(rt: &LibcRuntime) -> Result<Task, AnyError> {
     let mut words = env::args(rt)?;
     let _program = words.next();
     let Some(first) = words.next() else {
@@ -116,9 +119,10 @@ fn read(rt: &LibcRuntime, path: &str) -> Result<Vec<u8>, AnyError> {
     }
 }
 
-fn release(rt: &LibcRuntime, listing: &[u8]) -> io::Result<()> {
+fn release(rt: &LibcRuntime, listing: &[u8]) -> Result<(), AnyError> {
     let mut out = rt.stdout();
-    out.write_all(listing)
+    out.write_all(listing)?;
+    Ok(())
 }
 
 // The netting scale where word 7 of the proposal is there and is 1, else the activation scale.
