@@ -6,3 +6,4 @@ pub mod CaseReaders
 pub mod ProposalBytes
 pub mod Sections
 pub mod Writing
+pub mod Exact
