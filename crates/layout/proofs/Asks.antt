@@ -23,6 +23,18 @@ first-no-all ok i (suc n) none k low high = at (ok i) refl none (λ rest above. 
     at true e rest later = elim (ℕ-discrete i k) [ yes same ↦ ap ok (sym same) ∙ e | no other ↦ later rest (omega arith) ]
     at false e rest later = cc
 
+-- the place that `first-no` finds is the first that fails
+found-from : (ok : ℕ → Bool) (i n : ℕ) → ((k : ℕ) → k < i → ok k ≡ true) → FirstNo ok (i + n) (first-no ok i n)
+found-from ok i zero before = λ k below. before k (omega arith)
+found-from ok i (suc n) before = at (ok i) refl (λ more. subst (λ (m : ℕ). FirstNo ok m (first-no ok (suc i) n)) (omega arith) (found-from ok (suc i) n more))
+  where
+    at : (t : Bool) → ok i ≡ t → (((k : ℕ) → k < suc i → ok k ≡ true) → FirstNo ok (i + suc n) (first-no ok (suc i) n)) → FirstNo ok (i + suc n) (cond t (first-no ok (suc i) n) (Some i))
+    at true e later = later (λ k below. elim (ℕ-discrete k i) [ yes same ↦ ap ok same ∙ e | no other ↦ before k (omega arith) ])
+    at false e later = (omega arith, e, before)
+
+pub first-no-found : (ok : ℕ → Bool) (n : ℕ) → FirstNo ok n (first-no ok 0 n)
+first-no-found ok n = subst (λ (m : ℕ). FirstNo ok m (first-no ok 0 n)) (omega arith) (found-from ok 0 n (λ k below. absurd (omega arith)))
+
 first-no-same : (ok fine : ℕ → Bool) (i n : ℕ) → ((k : ℕ) → i ≤ k → k < i + n → ok k ≡ fine k) → first-no ok i n ≡ first-no fine i n
 first-no-same ok fine i zero same = refl
 first-no-same ok fine i (suc n) same =

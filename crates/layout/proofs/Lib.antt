@@ -2,6 +2,7 @@ pub mod Asks
 pub mod Cases
 pub mod Exactly
 pub mod Numbers
+pub mod Orders
 pub mod Placed
 pub mod Prices
 pub mod Proposals

@@ -133,9 +133,9 @@ module _ (bs : List ℕ) (long : length bs ≡ 12) (h : Bytewise bs) where
   direction-again : (n : ℕ) → leb n 1 ≡ true → direction-number (direction-of n) ≡ n
   direction-again n low = by (eqb n 0) refl
     where
-    by : (t : Bool) → eqb n 0 ≡ t → direction-number (cond (eqb n 0) Up Down) ≡ n
-    by true e = ap (λ t. direction-number (cond t Up Down)) e ∙ sym (eqb-true n 0 e)
-    by false e = ap (λ t. direction-number (cond t Up Down)) e ∙ (let few : n ≤ 1 = leb-true n 1 low in omega (arith, eqb-false n 0 e))
+      by : (t : Bool) → eqb n 0 ≡ t → direction-number (cond (eqb n 0) Up Down) ≡ n
+      by true e = ap (λ t. direction-number (cond t Up Down)) e ∙ sym (eqb-true n 0 e)
+      by false e = ap (λ t. direction-number (cond t Up Down)) e ∙ (let few : n ≤ 1 = leb-true n 1 low in omega (arith, eqb-false n 0 e))
 
   pub bid-again : leb (little-endian (part 2 2 bs)) 1 ≡ true → bid-bytes (bid-of bs) ≡ bs
   bid-again low =
@@ -170,7 +170,7 @@ module _ {X : Type 0} (f : List ℕ → X) (writes : X → List ℕ) (size : ℕ
       let wide : size + size * n ≡ size * suc n = add-comm size (size * n) ∙ sym (mul-suc size n) in
       ap (λ l. l ++ each writes (table f size n (drop size bs))) first
       ∙ (ap (λ l. take size bs ++ l)
-        (each-table n (drop size bs) (λ k below. subst (λ (p : List ℕ). writes (f p) ≡ p) (sym (part-later f size k bs)) (h (suc k) (omega arith))))
+      (each-table n (drop size bs) (λ k below. subst (λ (p : List ℕ). writes (f p) ≡ p) (sym (part-later f size k bs)) (h (suc k) (omega arith))))
       ∙ (sym (take-add size (size * n) bs) ∙ ap (λ m. take m bs) wide))
 
   pub records-each : (xs : List X) → 0 < size → All (λ x. (length (writes x) ≡ size) × (f (writes x) ≡ x)) xs → length (each writes xs) ≡ size * length xs → records f size (each writes xs) ≡ xs

@@ -7,3 +7,4 @@ pub mod ProposalBytes
 pub mod Sections
 pub mod Writing
 pub mod Exact
+pub mod InOrder
