@@ -11,6 +11,7 @@ use Rattle.std.specs.declared.result.Result.the-variants.{Ok, Err}
 use Rattle.std.specs.Vec.{made}
 use Rattle.market.specs.declared.refusal.Refusal.{Refusal}
 use Rattle.market.specs.First.{first-no, FirstNo, and-then, ask-one, ask, refused-at}
+use Rattle.market.proofs.Firsts.{first-no-none}
 use Rattle.layout.specs.Sections.{forget}
 
 first-no-all : (ok : ℕ → Bool) (i n : ℕ) → first-no ok i n ≡ None → (k : ℕ) → i ≤ k → k < i + n → ok k ≡ true
@@ -21,6 +22,18 @@ first-no-all ok i (suc n) none k low high = at (ok i) refl none (λ rest above. 
         → (first-no ok (suc i) n ≡ None → suc i ≤ k → ok k ≡ true) → ok k ≡ true
     at true e rest later = elim (ℕ-discrete i k) [ yes same ↦ ap ok (sym same) ∙ e | no other ↦ later rest (omega arith) ]
     at false e rest later = cc
+
+-- the place that `first-no` finds is the first that fails
+found-from : (ok : ℕ → Bool) (i n : ℕ) → ((k : ℕ) → k < i → ok k ≡ true) → FirstNo ok (i + n) (first-no ok i n)
+found-from ok i zero before = λ k below. before k (omega arith)
+found-from ok i (suc n) before = at (ok i) refl (λ more. subst (λ (m : ℕ). FirstNo ok m (first-no ok (suc i) n)) (omega arith) (found-from ok (suc i) n more))
+  where
+    at : (t : Bool) → ok i ≡ t → (((k : ℕ) → k < suc i → ok k ≡ true) → FirstNo ok (i + suc n) (first-no ok (suc i) n)) → FirstNo ok (i + suc n) (cond t (first-no ok (suc i) n) (Some i))
+    at true e later = later (λ k below. elim (ℕ-discrete k i) [ yes same ↦ ap ok same ∙ e | no other ↦ before k (omega arith) ])
+    at false e later = (omega arith, e, before)
+
+pub first-no-found : (ok : ℕ → Bool) (n : ℕ) → FirstNo ok n (first-no ok 0 n)
+first-no-found ok n = subst (λ (m : ℕ). FirstNo ok m (first-no ok 0 n)) (omega arith) (found-from ok 0 n (λ k below. absurd (omega arith)))
 
 first-no-same : (ok fine : ℕ → Bool) (i n : ℕ) → ((k : ℕ) → i ≤ k → k < i + n → ok k ≡ fine k) → first-no ok i n ≡ first-no fine i n
 first-no-same ok fine i zero same = refl
@@ -57,6 +70,16 @@ module _ {E : Type 0} where
   -- where the answer is a yes, the question passes at every place
   pub ask-yes : (ok : ℕ → Bool) (n : ℕ) (refusal : ℕ → E) → ask ok n refusal ≡ Ok tt → (k : ℕ) → k < n → ok k ≡ true
   ask-yes ok n refusal h k below = first-no-all ok 0 n (refused-at-none refusal (first-no ok 0 n) h) k (omega arith) (omega arith)
+
+  -- questions that pass at every place, in a row
+  pub yes-one : (t : Bool) (e : E) → t ≡ true → ask-one t e ≡ Ok tt
+  yes-one t e h = ap (λ x. ask-one x e) h
+
+  pub yes-all : (ok : ℕ → Bool) (n : ℕ) (refusal : ℕ → E) → ((k : ℕ) → k < n → ok k ≡ true) → ask ok n refusal ≡ Ok tt
+  yes-all ok n refusal h = ap (refused-at refusal) (first-no-none ok 0 n (λ k low high. h k (omega arith)))
+
+  pub yes-both : (a b : Result (Unit {0}) E) → a ≡ Ok tt → b ≡ Ok tt → and-then a b ≡ Ok tt
+  yes-both a b h k = ap (λ x. and-then x b) h ∙ k
 
   -- an answer depends on the places that are asked alone
   pub ask-same : (ok fine : ℕ → Bool) (n : ℕ) (refusal : ℕ → E) → ((k : ℕ) → k < n → ok k ≡ fine k) → ask ok n refusal ≡ ask fine n refusal

@@ -94,6 +94,13 @@ module _ (bids : Bool) (bs : List ℕ) where
 pub ends-by : (bids : Bool) (bs : List ℕ) (h : CaseHeader) → Ok tt ≡ bytes-answer bids bs → h ≡ case-header-of bs → length bs ≡ end-by h
 ends-by bids bs h yes-here is = taken-end bids bs (sym yes-here) ∙ ap end-by (sym is)
 
+-- the direction of a bid, in its record and in all the bytes
+pub direction-part : (bs : List ℕ) (k offset : ℕ) → part 2 2 (part (12 * k) 12 (drop offset bs)) ≡ part (offset + 12 * k + 2) 2 bs
+direction-part bs k offset =
+    ap (take 2) (drop-take 2 10 (drop (12 * k) (drop offset bs)))
+    ∙ (take-take 2 10 (drop 2 (drop (12 * k) (drop offset bs))) (omega arith)
+    ∙ ap (take 2) (ap (drop 2) (drop-drop (12 * k) offset bs) ∙ drop-drop 2 (offset + 12 * k) bs))
+
 -- what the reader of taken bytes holds
 module _ (h : CaseHeader) (bs : List ℕ) (r : CaseReader) (is : h ≡ case-header-of bs) (end : length bs ≡ end-by h) (parts : Parts h bs r) where
   pub case-read-is : case-read r ≡ case-in bs
@@ -109,13 +116,6 @@ module _ (h : CaseHeader) (bs : List ℕ) (r : CaseReader) (is : h ≡ case-head
       ∙ (ap (case-of (table signed-word 4 (h .areas) (drop 28 bs)) (table border-of 12 (h .borders) (drop (borders-start h) bs))) bids
       ∙ ap (λ h. case-of (table signed-word 4 (h .areas) (drop 28 bs)) (table border-of 12 (h .borders) (drop (borders-start h) bs)) (table bid-of 12 (h .bids) (drop (bids-start h) bs))) is))
 
-  -- the direction of a bid, in its record and in all the bytes
-  direction-part : (k offset : ℕ) → part 2 2 (part (12 * k) 12 (drop offset bs)) ≡ part (offset + 12 * k + 2) 2 bs
-  direction-part k offset =
-      ap (take 2) (drop-take 2 10 (drop (12 * k) (drop offset bs)))
-      ∙ (take-take 2 10 (drop 2 (drop (12 * k) (drop offset bs))) (omega arith)
-      ∙ ap (take 2) (ap (drop 2) (drop-drop (12 * k) offset bs) ∙ drop-drop 2 (offset + 12 * k) bs))
-
   pub direction-same : (k : ℕ) → k < h .bids → direction-fine r k ≡ direction-known bs k
   direction-same k below =
       let list : directions-read r ≡ table raw-direction 12 (h .bids) (drop (bids-start h) bs) =
@@ -123,7 +123,7 @@ module _ (h : CaseHeader) (bs : List ℕ) (r : CaseReader) (is : h ≡ case-head
       let at : getD (directions-read r) k no-direction ≡ raw-direction (part (12 * k) 12 (drop (bids-start h) bs)) =
       ap (λ l. getD l k no-direction) list ∙ getD-table raw-direction 12 (h .bids) k (drop (bids-start h) bs) no-direction below in
       ap (λ d. leb (d .number) 1) at
-      ∙ (ap (λ p. leb (little-endian p) 1) (direction-part k (bids-start h))
+      ∙ (ap (λ p. leb (little-endian p) 1) (direction-part bs k (bids-start h))
       ∙ ap (λ x. leb (little-endian (part (bids-start x + 12 * k + 2) 2 bs)) 1) is)
 
   pub records-answer-same : records-answer (case-read r) (direction-fine r) ≡ records-answer (case-in bs) (direction-known bs)
@@ -189,11 +189,11 @@ module _ (c : Case) (direction-ok : ℕ → Bool) where
 all-true : {X : Type 0} (test : X → Bool) (xs : List X) (d : X) → ((k : ℕ) → k < length xs → test (getD xs k d) ≡ true) → All (λ x. T (test x)) xs
 all-true test xs d h = all-from-getD (λ x. T (test x)) xs d (λ k below. subst T (sym (h k below)) tt)
 
-both-first : (a b : Bool) → a && b ≡ true → a ≡ true
+pub both-first : (a b : Bool) → a && b ≡ true → a ≡ true
 both-first true b h = refl
 both-first false b h = h
 
-both-second : (a b : Bool) → a && b ≡ true → b ≡ true
+pub both-second : (a b : Bool) → a && b ≡ true → b ≡ true
 both-second true b h = h
 both-second false b h = cc
 

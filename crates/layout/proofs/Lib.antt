@@ -1,9 +1,12 @@
 pub mod Asks
 pub mod Cases
+pub mod Exactly
 pub mod Numbers
+pub mod Orders
 pub mod Placed
 pub mod Prices
 pub mod Proposals
+pub mod RoundTrips
 pub mod Tables
 pub mod Words
 pub mod Buffers

@@ -29,7 +29,7 @@ within n s k h =
     omega arith
 
 module _ {X : Type 0} (f : List ℕ → X) (s : ℕ) where
-  part-later : (k : ℕ) (bs : List ℕ) → part (s * k) s (drop s bs) ≡ part (s * suc k) s bs
+  pub part-later : (k : ℕ) (bs : List ℕ) → part (s * k) s (drop s bs) ≡ part (s * suc k) s bs
   part-later k bs =
       ap (take s) (drop-drop (s * k) s bs ∙ ap (λ n. drop n bs) (add-comm s (s * k) ∙ sym (mul-suc s k)))
 

@@ -6,3 +6,5 @@ pub mod CaseReaders
 pub mod ProposalBytes
 pub mod Sections
 pub mod Writing
+pub mod Exact
+pub mod InOrder

@@ -1,5 +1,6 @@
 // Cases and proposals as bytes.
 mod case;
+mod exact;
 mod header;
 mod proposal;
 mod questions;
@@ -10,6 +11,8 @@ mod written;
 
 pub use case::load;
 pub use case::read_case;
+pub use exact::case_layout;
+pub use exact::questions_in_order;
 pub use proposal::Counts;
 pub use proposal::Proposal;
 pub use proposal::Section;
