@@ -6,3 +6,4 @@ pub mod Signs
 pub mod Standing
 pub mod Steps
 pub mod Whole
+pub mod Worked
