@@ -1,5 +1,5 @@
 -- The worked case is valid, and its selection is within the limits. Assumes nothing.
-use mathlib.Core.Path.{_≡_, refl}
+use mathlib.Core.Path.{_≡_, refl, sym, subst}
 use mathlib.Core.List.{[], _∷_}
 use Prim.Native.Nat.{ℕ, zero, suc, _<_}
 use native.Mathlib.Omega.{arith}
@@ -53,3 +53,10 @@ example-within = record {
   activated-ok = activated;
   balanced = balanced;
 }
+
+-- the same under other names
+pub valid-as : (c : Case) → c ≡ example-case → Valid c
+valid-as c e = subst Valid (sym e) example-valid
+
+pub within-as : (c : Case) (s : Selection) → c ≡ example-case → s ≡ example-selection → WithinLimits c s
+within-as c s e f = subst (λ (k : Case). WithinLimits k s) (sym e) (subst (WithinLimits example-case) (sym f) example-within)
