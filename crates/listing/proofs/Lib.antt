@@ -1,3 +1,4 @@
+mod Both
 pub mod Digits
 pub mod Grown
 pub mod Prices

@@ -1,10 +1,9 @@
 -- The worked case is valid, and its selection is within the limits. Assumes nothing.
 use mathlib.Core.Path.{_≡_, refl, sym, subst}
-use mathlib.Core.List.{[], _∷_}
 use Prim.Native.Nat.{ℕ, zero, suc, _<_}
 use native.Mathlib.Omega.{arith}
 use lib.Dec.{T, lit≤}
-use lib.IntN.{ℤ, pos}
+use lib.IntN.{pos}
 use lib.ListN.{getD}
 use Rattle.market.specs.declared.trade.Border.{Border}
 use Rattle.market.specs.declared.trade.Bid.{Bid}
