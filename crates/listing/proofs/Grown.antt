@@ -5,7 +5,6 @@
 --   next       one piece, then another
 --   renamed    the text after it by another name
 --   as-piece   the same piece and a larger bound
---   then-line  a field with the space behind it, then the rest of the line
 use mathlib.Core.Path.{_≡_, refl, sym, _∙_, ap, subst}
 use mathlib.Core.List.{List, [], _∷_, _++_, append-assoc, append-nil}
 use Prim.Native.Nat.{ℕ, _+_, _≤_}
@@ -37,6 +36,3 @@ module _ {Z : Type 0} where
     memory = f .memory;
     short = omega arith;
   }
-
-  pub then-line : {a b : ℕ} {u v w : Vec ℕ Z} (x : List ℕ) {q : List ℕ} → Wrote a u v (x ++ (32 ∷ [])) → Wrote b v w q → Wrote (a + b) u w (x ++ (32 ∷ q))
-  then-line x {q} f g = as-piece (append-assoc x (32 ∷ []) q) (omega arith) (next f g)

@@ -1,3 +1,4 @@
+mod Both
 pub mod Digits
 pub mod Grown
 pub mod Prices
@@ -6,3 +7,4 @@ pub mod Signs
 pub mod Standing
 pub mod Steps
 pub mod Whole
+pub mod Worked

@@ -4,7 +4,7 @@
 --   price-small    a price in range
 --   product-is     the machine's product of a price and an amount
 use mathlib.Core.Path.{_≡_, sym, _∙_, ap, subst}
-use mathlib.Core.Bool.{Bool, true, false, _&&_}
+use mathlib.Core.Bool.{_&&_}
 use Prim.Native.Nat.{ℕ, suc, _*_, _≤_}
 use native.Mathlib.Nat.{mul-le-mul}
 use native.Mathlib.Omega.{arith}
@@ -16,14 +16,7 @@ use mir.Val.{toZ, ofZ, SFits}
 use Rattle.std.proofs.shelf.Signed.{ints, toZ-ofZ}
 use Rattle.market.specs.declared.trade.Bid.{Bid}
 use Rattle.market.specs.Cases.{bid-in-range}
-
-first-of : (x y : Bool) → T (x && y) → T x
-first-of true y p = tt
-first-of false y p = p
-
-second-of : (x y : Bool) → T (x && y) → T y
-second-of true y p = p
-second-of false y p = absurd p
+use Rattle.listing.proofs.Both.{first-of, second-of}
 
 pub record Small (n : ℕ) (z : ℤ) : Type 0 where
   pub least : negℤ (pos n) ≤ℤ z

@@ -13,16 +13,16 @@ use native.Mathlib.Nat.{ℕ-set, le-trans}
 use lib.Dec.{T, T-prop, leb, leb→le}
 use lib.IntN.{pos, _+ℤ_, _-ℤ_}
 use lib.ListN.{length, getD}
-use mathlib.Core.Bool.{Bool, true, false, _&&_}
 use Rattle.std.proofs.shelf.Elements.{all-getD}
 use Rattle.market.specs.declared.settled.Settled.{Settled}
 use Rattle.market.specs.declared.trade.Bid.{Bid}
-use Rattle.market.specs.Cases.{Case, Valid, areas, bid-in-range, no-bid}
+use Rattle.market.specs.Cases.{Case, Valid, bid-in-range, no-bid}
 use Rattle.market.specs.Selections.{Selection, WithinLimits}
 use Rattle.listing.specs.Payable.{Payable}
 use Rattle.listing.specs.Figures.{netted, satisfied-sum, activated-sum}
 use Rattle.listing.specs.View.{case-in, selection-in}
 use Rattle.listing.proofs.Whole.{whole}
+use Rattle.listing.proofs.Both.{first-of}
 
 module _ (c : Case) (valid : ∥ Valid c ∥₁) where
   pub few-areas : length (c .demands) ≤ 48
@@ -49,10 +49,6 @@ module _ (c : Case) (s : Selection) (within : ∥ WithinLimits c s ∥₁) where
 
   within-volume : (k : ℕ) (d : Bid) → k < length (c .bids) → getD (s .activated) k 0 ≤ getD (c .bids) k d .volume
   within-volume k d h = ∥∥₁-elim within le-prop (λ w. leb→le (getD (s .activated) k 0) (getD (c .bids) k d .volume) (w .activated-ok k d h))
-
-first-of : (x y : Bool) → T (x && y) → T x
-first-of true y p = tt
-first-of false y p = p
 
 volume-small : (b : Bid) → T (bid-in-range b) → b .volume ≤ 9999000
 volume-small b h = leb→le (b .volume) 9999000 (first-of (leb (b .volume) 9999000) _ h)

@@ -6,7 +6,7 @@
 --   Apart x y       x and y differ by an even number
 --   whole           twice netted is satisfied minus activated
 use mathlib.Core.Path.{_≡_, refl, sym, _∙_, ap}
-use mathlib.Core.Bool.{Bool, true, false, not, _&&_, cond}
+use mathlib.Core.Bool.{false, cond}
 use mathlib.Core.List.{List, [], _∷_}
 use mathlib.Core.Logic.{∥∥₁-elim}
 use Prim.Native.Nat.{ℕ, zero, suc, _+_, _/_, _<_}
@@ -25,6 +25,7 @@ use Rattle.market.specs.declared.trade.Bid.{Bid}
 use Rattle.market.specs.Cases.{Case, Valid, areas, ends-known, bid-known}
 use Rattle.market.specs.Selections.{Selection, WithinLimits, injected, brought, flows-into, activated-in, net}
 use Rattle.listing.specs.Figures.{sizes, sum, satisfied-sum, activated-sum, netted}
+use Rattle.listing.proofs.Both.{first-of, second-of}
 
 abbrev sum-to : (ℕ → ℤ) → ℕ → ℤ
 sum-to f zero = pos 0
@@ -83,14 +84,6 @@ sum-one (suc b) z (suc n) h =
     ∙ none-before (sum-to (λ a. cond (eqb (suc b) (suc a)) z (pos 0)) n)
     ∙ sum-same (λ a. cond (eqb (suc b) (suc a)) z (pos 0)) (λ a. cond (eqb b a) z (pos 0)) n (λ a _. one-less z b a)
     ∙ sum-one b z n (omega arith)
-
-first-of : (x y : Bool) → T (x && y) → T x
-first-of true y p = tt
-first-of false y p = p
-
-second-of : (x y : Bool) → T (x && y) → T y
-second-of true y p = p
-second-of false y p = absurd p
 
 -- each bid is in one area
 sum-activated : (n : ℕ) (bs : List Bid) (xs : List ℕ) → All (λ b. T (bid-known n b)) bs → sum-to (λ a. activated-in a bs xs) n ≡ injections bs xs

@@ -3,7 +3,7 @@ ghost use mathlib.Core.Path.{_≡_};
 ghost use mathlib.Core.List.{[]};
 ghost use Rattle.std.specs.Vec.{made};
 ghost use Rattle.listing.specs.Lines.{listing};
-ghost use Rattle.listing.specs.View.{text-of, case-in, selection-in};
+ghost use Rattle.listing.specs.View.{text-of, room-of, case-in, selection-in};
 use crate::lines::push_heading;
 use crate::lines::push_total;
 use crate::tables::push_areas;
@@ -25,9 +25,10 @@ impl Text {
         })
     }
 
-    // The text becomes the listing of what stands.
+    // The text becomes the listing of what stands, in the memory that it has.
     pub fn render(&mut self, standing: &Settled)
         ensures text { λ _. ⌜ text-of (now (self .exit)) ≡ listing (case-in (now (standing .entry))) (selection-in (now (standing .entry))) ⌝ }
+        ensures room { λ _. ⌜ room-of (now (self .exit)) ≡ room-of (now (self .entry)) ⌝ }
     {
         let text = &mut self.bytes;
         text.clear();
@@ -41,6 +42,7 @@ impl Text {
     // No text.
     pub fn clear(&mut self)
         ensures empty { λ _. ⌜ text-of (now (self .exit)) ≡ [] ⌝ }
+        ensures room { λ _. ⌜ room-of (now (self .exit)) ≡ room-of (now (self .entry)) ⌝ }
     {
         self.bytes.clear();
     }

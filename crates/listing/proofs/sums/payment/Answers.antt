@@ -1,5 +1,4 @@
 use mathlib.Core.Path.{sym, ap}
-use lib.IntN.{ℤ}
 use Rattle.listing.specs.Figures.{payment}
 use Rattle.listing.proofs.Prices.{price-small, product-fits, product-is, product-small, opposite-fits, opposite-product-is, opposite-small, paid}
 use Rattle.listing.proofs.sums.payment.Needs as need

@@ -1,9 +1,6 @@
-use Prim.Native.Nat.{_+_, _<_, _≤_, _/_, _^_}
-use mathlib.Core.Path.{_≡_, sym}
+use mathlib.Core.Path.{sym}
 use native.Mathlib.Omega.{arith}
-use lib.ListN.{length}
 use Rattle.std.proofs.shelf.Decimals.{decimal-step}
-use Rattle.std.specs.Written.{decimal}
 use Rattle.listing.proofs.Digits.{one-digit, length-digit, length-step}
 use Rattle.listing.proofs.Grown.{none, one, next, renamed, as-piece}
 use Rattle.listing.proofs.writing.+push_digits.Needs as need

@@ -1,4 +1,3 @@
-use Prim.Native.Nat.{_+_, _<_, _≤_}
 use mathlib.Core.Path.{refl}
 use native.Mathlib.Omega.{arith}
 use Rattle.listing.proofs.Digits.{at-most-20}

@@ -1,7 +1,5 @@
-use Prim.Native.Nat.{_<_, _≤_}
 use mathlib.Core.Path.{sym}
 use native.Mathlib.Omega.{arith}
-use lib.ListN.{length}
 use Rattle.std.proofs.shelf.Lists.{take-more, take-all}
 use Rattle.listing.proofs.Grown.{one, next, as-piece}
 use Rattle.listing.proofs.writing.push_word.Needs as need

@@ -24,4 +24,8 @@ returns c =
     let from-bids = next {p = bid-lines} {q = total-line k s} (c .push-bids .ensures) total in
     let from-flows = next {p = flow-lines} {q = bid-lines ++ total-line k s} (c .push-flows .ensures) from-bids in
     let from-areas = next {p = area-lines} {q = flow-lines ++ (bid-lines ++ total-line k s)} (c .push-areas .ensures) from-flows in
-    record { text = next {p = heading} (c .push-heading .ensures) from-areas .items ∙ ap (λ xs. xs ++ listing k s) (c .clear .ensures .items) }
+    let all = next {p = heading} {q = area-lines ++ (flow-lines ++ (bid-lines ++ total-line k s))} (c .push-heading .ensures) from-areas in
+    record {
+      text = all .items ∙ ap (λ xs. xs ++ listing k s) (c .clear .ensures .items);
+      room = all .memory ∙ c .clear .ensures .capacity;
+    }
