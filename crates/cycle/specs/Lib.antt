@@ -4,3 +4,4 @@ pub mod View
 pub mod Totals
 pub mod Sent
 pub mod Histories
+pub mod Replayed
