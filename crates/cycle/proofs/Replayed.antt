@@ -79,17 +79,17 @@ replaying-none m calls answers cap st e room is =
     subst (λ (l : List Answer). Replaying m calls l cap 0 st) (sym e) (record { counted = refl; room = room; state = is; lawful = tt })
 
 pub replaying-more : (m : Meaning) (calls : List Call) (answers later : List Answer) (cap i : ℕ) (st st′ : State) (d : Call) (a : Answer) → i < length calls →
-  a ≡ answer-to m st (sent (getD calls i d)) → st′ ≡ next m st (sent (getD calls i d)) → later ≡ answers ++ (a ∷ []) →
-  Replaying m calls answers cap i st → Replaying m calls later cap (i + 1) st′
+    a ≡ answer-to m st (sent (getD calls i d)) → st′ ≡ next m st (sent (getD calls i d)) → later ≡ answers ++ (a ∷ []) →
+    Replaying m calls answers cap i st → Replaying m calls later cap (i + 1) st′
 replaying-more m calls answers later cap i st st′ d a low answered moved pushed inv =
     let h : History = history-of [] (take i calls) answers in
     let rule : a ≡ answer-to m (state-after (history-of [] (take i calls) answers)) (sent (getD calls i d)) = answered ∙ ap (λ (x : State). answer-to m x (sent (getD calls i d))) (inv .state) in
     let longer : history-of [] (take (i + 1) calls) later ≡ step (getD calls i d) a ∷ history-of [] (take i calls) answers =
-        ap (λ (n : ℕ). history-of [] (take n calls) later) (add-one i) ∙ (ap (λ (l : List Answer). history-of [] (take (suc i) calls) l) pushed ∙ history-push [] calls answers i d a (inv .counted) low) in
+    ap (λ (n : ℕ). history-of [] (take n calls) later) (add-one i) ∙ (ap (λ (l : List Answer). history-of [] (take (suc i) calls) l) pushed ∙ history-push [] calls answers i d a (inv .counted) low) in
     let held : st′ ≡ state-after (step (getD calls i d) a ∷ history-of [] (take i calls) answers) =
-        moved ∙ (ap (λ (x : State). next m x (sent (getD calls i d))) (inv .state)
-        ∙ (next-is m (history-of [] (take i calls) answers) (sent (getD calls i d))
-        ∙ ap (λ (x : Answer). state-after (step (getD calls i d) x ∷ history-of [] (take i calls) answers)) (sym rule))) in
+    moved ∙ (ap (λ (x : State). next m x (sent (getD calls i d))) (inv .state)
+    ∙ (next-is m (history-of [] (take i calls) answers) (sent (getD calls i d))
+    ∙ ap (λ (x : Answer). state-after (step (getD calls i d) x ∷ history-of [] (take i calls) answers)) (sym rule))) in
     record {
       counted = ap length pushed ∙ (length-append answers (a ∷ []) ∙ omega (arith, inv .counted));
       room = inv .room;

@@ -81,7 +81,7 @@ reads-back m laws few v ok bs long e =
     let same : m .value (numbers (m .levels) bs) ≡ v = ap (m .value) e ∙ laws .value-written few v ok in
     let counted : length (numbers (m .levels) bs) ≡ m .levels = ap length e ∙ laws .written-count few v ok in
     let test : (leb (m .levels) 16 && (eqb (length (numbers (m .levels) bs)) (m .levels) && m .in-range (m .value (numbers (m .levels) bs)))) ≡ true =
-        and-from _ _ (le-leb _ _ few) (and-from _ _ (eq-eqb _ _ counted) (ap (m .in-range) same ∙ yes-so _ ok)) in
+    and-from _ _ (le-leb _ _ few) (and-from _ _ (eq-eqb _ _ counted) (ap (m .in-range) same ∙ yes-so _ ok)) in
     ap (λ b. cond b (cond (leb (m .levels) 16 && (eqb (length (numbers (m .levels) bs)) (m .levels) && m .in-range (m .value (numbers (m .levels) bs)))) (Some (m .value (numbers (m .levels) bs))) None) None) (eq-eqb _ _ long)
     ∙ (ap (λ b. cond b (Some (m .value (numbers (m .levels) bs))) None) test ∙ ap Some same)
 
@@ -107,14 +107,14 @@ module _ (m : Meaning) (laws : Laws m) (few : m .levels ≤ 16) (c : Case) (vali
     activated-count = within .activated-count;
     prices-count = length-map prices (m .written) ∙ count;
     satisfied-fit = all-from-getD (SFits w32) (s .satisfied) (pos 0) (λ k h.
-      let low : k < areas c = omega (arith, within .satisfied-count) in
-      satisfied-fits (demand-at c k) _ (all-getD (λ d. T (demand-in-range d)) (c .demands) k (pos 0) low (valid .demands-in-range)) (within .satisfied-ok k low));
+        let low : k < areas c = omega (arith, within .satisfied-count) in
+        satisfied-fits (demand-at c k) _ (all-getD (λ d. T (demand-in-range d)) (c .demands) k (pos 0) low (valid .demands-in-range)) (within .satisfied-ok k low));
     flows-fit = all-from-getD (SFits w32) (s .flows) (pos 0) (λ k h.
-      let low : k < length (c .borders) = omega (arith, within .flows-count) in
-      flow-fits (border-at c k) _ (all-getD (λ b. T (limits-in-range b)) (c .borders) k no-border low (valid .borders-in-range)) (within .flows-ok k no-border low));
+        let low : k < length (c .borders) = omega (arith, within .flows-count) in
+        flow-fits (border-at c k) _ (all-getD (λ b. T (limits-in-range b)) (c .borders) k no-border low (valid .borders-in-range)) (within .flows-ok k no-border low));
     activated-fit = all-from-getD (λ x. x < 2 ^ 32) (s .activated) 0 (λ k h.
-      let low : k < length (c .bids) = omega (arith, within .activated-count) in
-      activated-fits (bid-at c k) _ (all-getD (λ b. T (bid-in-range b)) (c .bids) k no-bid low (valid .bids-in-range)) (within .activated-ok k no-bid low));
+        let low : k < length (c .bids) = omega (arith, within .activated-count) in
+        activated-fits (bid-at c k) _ (all-getD (λ b. T (bid-in-range b)) (c .bids) k no-bid low (valid .bids-in-range)) (within .activated-ok k no-bid low));
     prices-fit = written-all m laws few prices ranged;
   }
 
@@ -126,7 +126,7 @@ module _ (m : Meaning) (laws : Laws m) (few : m .levels ≤ 16) (c : Case) (vali
       let taken = proposal-layout .taken (counts-of c) (m .levels) s (map (m .written) prices) writable in
       let end : length (sent-with m c s prices) ≡ proposal-end (counts-of c) (m .levels) = taken-length (counts-of c) (m .levels) (sent-with m c s prices) taken in
       let section : length (prices-part (counts-of c) (m .levels) (sent-with m c s prices)) ≡ 8 * m .levels * areas c =
-          part-long (prices-offset (counts-of c)) (8 * m .levels * areas c) (sent-with m c s prices) (omega (arith, end)) in
+      part-long (prices-offset (counts-of c)) (8 * m .levels * areas c) (sent-with m c s prices) (omega (arith, end)) in
       let slot : 8 * m .levels * a + 8 * m .levels ≤ 8 * m .levels * areas c = slot-within (8 * m .levels) a (areas c) h in
       let inside : a < length prices = omega (arith, count) in
       reads-back m laws few (getD prices a (m .zero)) (all-getD (λ v. T (m .in-range v)) prices a (m .zero) inside ranged)
@@ -139,4 +139,4 @@ module _ (m : Meaning) (laws : Laws m) (few : m .levels ≤ 16) (c : Case) (vali
       and-then-both _ _ (proposal-layout .taken (counts-of c) (m .levels) s (map (m .written) prices) writable)
       (ap (λ (x : Selection). judged m c x (price-in m c (sent-with m c s prices))) read-sent
       ∙ judged-passed m c s (price-in m c (sent-with m c s prices))
-        (passed-from-fits m c s (price-in m c (sent-with m c s prices)) prices price-sent valid within fits))
+      (passed-from-fits m c s (price-in m c (sent-with m c s prices)) prices price-sent valid within fits))

@@ -67,5 +67,10 @@ fn render(holdings: &Holdings, text: &mut Text)
     requires { ⌜ now holdings .stands ≡ true ⌝ }
     ensures { λ _. ⌜ text-of (now (text .exit)) ≡ listing (held (now (holdings .entry) .book)) (selected (now (holdings .entry) .amounts)) ⌝ }
 {
-    text.render(&Settled { book: &holdings.book, amounts: &holdings.amounts });
+    text.render(
+        &Settled {
+            book: &holdings.book,
+            amounts: &holdings.amounts,
+        },
+    );
 }

@@ -44,7 +44,11 @@ impl<S: Scale> Cycle<S> {
             amounts: Amounts::reserve(heap)?,
             stands: false,
         };
-        Ok(Cycle { holdings, text: Text::reserve(heap)?, scale: PhantomData })
+        Ok(Cycle {
+            holdings,
+            text: Text::reserve(heap)?,
+            scale: PhantomData,
+        })
     }
 
     // Replaces the case by the one in the bytes, and ends what stood.
@@ -137,7 +141,11 @@ impl<S: Scale> Cycle<S> {
         match call {
             Call::Load(bytes) => Answer::of_call(self.load(bytes)),
             Call::Revise(area, demand) => Answer::of_call(self.revise(area, demand)),
-            Call::Limit(border, forward, backward) => Answer::of_call(self.limit(border, forward, backward)),
+            Call::Limit(border, forward, backward) => Answer::of_call(self.limit(
+                border,
+                forward,
+                backward,
+            )),
             Call::Withdraw(bid) => Answer::of_call(self.withdraw(bid)),
             Call::Submit(bytes) => Answer::of_call(self.submit(bytes)),
             Call::Read(item) => Answer::of_read(self.read(item)),
@@ -163,7 +171,15 @@ impl<S: Scale> Cycle<S> {
     pub fn close(self) -> Closed<S>
         ensures { λ r. ⌜ closed-view r ≡ view self ⌝ }
     {
-        let Cycle { holdings, text, scale } = self;
-        Closed { holdings, text, scale }
+        let Cycle {
+            holdings,
+            text,
+            scale,
+        } = self;
+        Closed {
+            holdings,
+            text,
+            scale,
+        }
     }
 }

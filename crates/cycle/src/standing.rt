@@ -55,7 +55,12 @@ impl Holdings {
         ensures { λ r. ⌜ r ≡ standing-totals (state-of (now (self .entry))) ⌝ }
     {
         if self.stands {
-            Some(totals(&Settled { book: &self.book, amounts: &self.amounts }))
+            Some(totals(
+                &Settled {
+                    book: &self.book,
+                    amounts: &self.amounts,
+                },
+            ))
         } else {
             None
         }
@@ -66,11 +71,19 @@ impl Holdings {
 fn signed_at(amounts: &[i32], place: usize) -> i64
     ensures { λ r. ⌜ r ≡ getD (now (amounts .entry)) place (pos 0) ⌝ }
 {
-    if place < amounts.len() { i64::from(amounts[place]) } else { 0 }
+    if place < amounts.len() {
+        i64::from(amounts[place])
+    } else {
+        0
+    }
 }
 
 fn unsigned_at(amounts: &[u32], place: usize) -> i64
     ensures { λ r. ⌜ r ≡ pos (getD (now (amounts .entry)) place 0) ⌝ }
 {
-    if place < amounts.len() { i64::from(amounts[place]) } else { 0 }
+    if place < amounts.len() {
+        i64::from(amounts[place])
+    } else {
+        0
+    }
 }

@@ -32,7 +32,7 @@ long-enough false o v e = absurd (let z : _≡_ {A = ℕ} 0 1 = cc in omega arit
 pub read-in-range : (m : Meaning) (bs : List ℕ) (v : m .Value) → read-bytes m bs ≡ Some v → T (m .in-range v)
 read-in-range m bs v e =
     let price = chosen (leb (m .levels) 16) (eqb (length (numbers (m .levels) bs)) (m .levels)) (m .in-range (m .value (numbers (m .levels) bs))) (m .value (numbers (m .levels) bs)) v
-        (long-enough (eqb (length bs) (8 * m .levels)) _ v e) in
+    (long-enough (eqb (length bs) (8 * m .levels)) _ v e) in
     subst (λ (x : m .Value). T (m .in-range x)) (price .1) (so _ (price .0))
 
 pub judged-unbeaten : (m : Meaning) → Laws m → (c : Case) → Valid c → (s : Selection) (bytes : ℕ → List ℕ) → OneForEach c s → judged m c s (λ a. read-bytes m (bytes a)) ≡ Ok tt → Unbeaten m c s

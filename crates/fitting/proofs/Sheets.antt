@@ -37,25 +37,25 @@ module _ (ds : List ℤ) (bs : List Border) (os : List Bid) (valid : ∥ Valid (
   pub bid-area-below : (k : ℕ) (d : Bid) → k < length os → getD os k d .area < 48
   bid-area-below k d h =
       ∥∥₁-elim valid le-prop (λ v.
-        let known = ltb→lt _ _ (all-getD (λ b. T (bid-known (length ds) b)) os k d h (v .bids-known)) in
-        let few = v .few-areas in
-        omega arith)
+      let known = ltb→lt _ _ (all-getD (λ b. T (bid-known (length ds) b)) os k d h (v .bids-known)) in
+      let few = v .few-areas in
+      omega arith)
 
   pub from-below : (k : ℕ) (d : Border) → k < length bs → getD bs k d .from < 48
   from-below k d h =
       ∥∥₁-elim valid le-prop (λ v.
-        let tests = and-parts _ _ (yes-so _ (all-getD (λ b. T (ends-known (length ds) b)) bs k d h (v .borders-known))) in
-        let known : getD bs k d .from < length ds = ltb→lt _ _ (so _ (tests .0)) in
-        let few = v .few-areas in
-        omega arith)
+      let tests = and-parts _ _ (yes-so _ (all-getD (λ b. T (ends-known (length ds) b)) bs k d h (v .borders-known))) in
+      let known : getD bs k d .from < length ds = ltb→lt _ _ (so _ (tests .0)) in
+      let few = v .few-areas in
+      omega arith)
 
   pub to-below : (k : ℕ) (d : Border) → k < length bs → getD bs k d .to < 48
   to-below k d h =
       ∥∥₁-elim valid le-prop (λ v.
-        let tests = and-parts _ _ (yes-so _ (all-getD (λ b. T (ends-known (length ds) b)) bs k d h (v .borders-known))) in
-        let known : getD bs k d .to < length ds = ltb→lt _ _ (so _ (and-parts _ _ (tests .1) .0)) in
-        let few = v .few-areas in
-        omega arith)
+      let tests = and-parts _ _ (yes-so _ (all-getD (λ b. T (ends-known (length ds) b)) bs k d h (v .borders-known))) in
+      let known : getD bs k d .to < length ds = ltb→lt _ _ (so _ (and-parts _ _ (tests .1) .0)) in
+      let few = v .few-areas in
+      omega arith)
 
   pub few-bids : length os ≤ 1024
   few-bids = ∥∥₁-elim valid le-prop (λ v. v .few-bids)
@@ -71,9 +71,10 @@ small-injected Down x h = record { least = omega (arith, ints); most = omega (ar
 -- adding z at one place adds it there and nowhere else
 set-added : (sums : List ℤ) (i a : ℕ) (v z : ℤ) → i < length sums → v ≡ getD sums i (pos 0) +ℤ z → getD (set sums i v) a (pos 0) ≡ getD sums a (pos 0) +ℤ cond (eqb i a) z (pos 0)
 set-added sums i a v z h is = elim (ℕ-discrete i a) [
-    yes e ↦ subst (λ (t : ℕ). getD (set sums i v) t (pos 0) ≡ getD sums t (pos 0) +ℤ cond (eqb i t) z (pos 0)) e
+  | yes e ↦ subst (λ (t : ℕ). getD (set sums i v) t (pos 0) ≡ getD sums t (pos 0) +ℤ cond (eqb i t) z (pos 0)) e
       (getD-set-same sums i v (pos 0) h ∙ is ∙ ap (λ t. getD sums i (pos 0) +ℤ cond t z (pos 0)) (sym (eq-eqb i i refl)))
-  | no ne ↦ getD-set-other sums i a v (pos 0) (λ e. ne (sym e)) ∙ sym (plus-zero _) ∙ ap (λ t. getD sums a (pos 0) +ℤ cond t z (pos 0)) (sym (ne-eqb i a ne)) ]
+  | no ne ↦ getD-set-other sums i a v (pos 0) (λ e. ne (sym e)) ∙ sym (plus-zero _) ∙ ap (λ t. getD sums a (pos 0) +ℤ cond t z (pos 0)) (sym (ne-eqb i a ne))
+]
   where
     plus-zero : (z : ℤ) → z +ℤ pos 0 ≡ z
     plus-zero z = omega (arith, ints)
@@ -107,19 +108,19 @@ activations-none bids xs = record {
 }
 
 pub activations-more : (bids : List Bid) (xs : List ℕ) (k : ℕ) (sums : List ℤ) (d : Bid) (x : ℕ) (v : ℤ) →
-  length sums ≡ 48 → k < length bids → getD bids k d .area < 48 → x < 4294967296 → x ≡ getD xs k 0 →
-  v ≡ getD sums (getD bids k d .area) (pos 0) +ℤ injected (getD bids k d .direction) x →
-  Activations bids xs k sums → Activations bids xs (k + 1) (set sums (getD bids k d .area) v)
+    length sums ≡ 48 → k < length bids → getD bids k d .area < 48 → x < 4294967296 → x ≡ getD xs k 0 →
+    v ≡ getD sums (getD bids k d .area) (pos 0) +ℤ injected (getD bids k d .direction) x →
+    Activations bids xs k sums → Activations bids xs (k + 1) (set sums (getD bids k d .area) v)
 activations-more bids xs k sums d x v len h below fits read is inv = record {
-    long = length-set sums (getD bids k d .area) v ∙ len;
-    sum = λ a low.
+  long = length-set sums (getD bids k d .area) v ∙ len;
+  sum = λ a low.
       set-added sums (getD bids k d .area) a v (injected (getD bids k d .direction) x) (omega arith) is
       ∙ ap (λ z. z +ℤ added-by-bid a (getD bids k d) x) (inv .sum a low) ∙ sym (more a);
-    small = λ a low.
+  small = λ a low.
       subst (λ (n : ℕ). Small n (getD (set sums (getD bids k d .area) v) a (pos 0))) (omega arith)
       (small-set (4294967296 * k) 4294967296 sums (getD bids k d .area) a v (injected (getD bids k d .direction) x) (omega arith) is (inv .small a low)
-        (small-injected (getD bids k d .direction) x fits));
-  }
+      (small-injected (getD bids k d .direction) x fits));
+}
   where
     more : (a : ℕ) → activated-in a (take (k + 1) bids) xs ≡ activated-in a (take k bids) xs +ℤ added-by-bid a (getD bids k d) x
     more a =
@@ -137,29 +138,32 @@ regroup : (base so-far out in′ : ℤ) → ((base +ℤ so-far) +ℤ out) +ℤ i
 regroup base so-far out in′ = omega (arith, ints)
 
 pub flowing-more : (base : List ℤ) (borders : List Border) (xs : List ℤ) (k : ℕ) (sums : List ℤ) (d : Border) (x u v : ℤ) →
-  length sums ≡ 48 → k < length borders → getD borders k d .from < 48 → getD borders k d .to < 48 → Small 2147483648 x → x ≡ getD xs k (pos 0) →
-  u ≡ getD sums (getD borders k d .from) (pos 0) +ℤ negℤ x →
-  v ≡ getD (set sums (getD borders k d .from) u) (getD borders k d .to) (pos 0) +ℤ x →
-  Flowing base borders xs k sums → Flowing base borders xs (k + 1) (set (set sums (getD borders k d .from) u) (getD borders k d .to) v)
+    length sums ≡ 48 → k < length borders → getD borders k d .from < 48 → getD borders k d .to < 48 → Small 2147483648 x → x ≡ getD xs k (pos 0) →
+    u ≡ getD sums (getD borders k d .from) (pos 0) +ℤ negℤ x →
+    v ≡ getD (set sums (getD borders k d .from) u) (getD borders k d .to) (pos 0) +ℤ x →
+    Flowing base borders xs k sums → Flowing base borders xs (k + 1) (set (set sums (getD borders k d .from) u) (getD borders k d .to) v)
 flowing-more base borders xs k sums d x u v len h from-low to-low fits read is-u is-v inv = record {
-    long = length-set (set sums (getD borders k d .from) u) (getD borders k d .to) v ∙ (length-set sums (getD borders k d .from) u ∙ len);
-    sum = λ a low.
+  long = length-set (set sums (getD borders k d .from) u) (getD borders k d .to) v ∙ (length-set sums (getD borders k d .from) u ∙ len);
+  sum = λ a low.
       set-added (set sums (getD borders k d .from) u) (getD borders k d .to) a v x to-in is-v
       ∙ ap (λ z. z +ℤ cond (eqb (getD borders k d .to) a) x (pos 0)) (set-added sums (getD borders k d .from) a u (negℤ x) from-in is-u ∙ ap (λ z. z +ℤ cond (eqb (getD borders k d .from) a) (negℤ x) (pos 0)) (inv .sum a low))
       ∙ regroup (getD base a (pos 0)) (flows-into a (take k borders) xs) (cond (eqb (getD borders k d .from) a) (negℤ x) (pos 0)) (cond (eqb (getD borders k d .to) a) x (pos 0))
       ∙ ap (λ z. getD base a (pos 0) +ℤ z) (sym (more a));
-    small = λ a low.
+  small = λ a low.
       subst (λ (n : ℕ). Small n (getD (set (set sums (getD borders k d .from) u) (getD borders k d .to) v) a (pos 0))) (omega arith)
       (small-set (4398046511104 + 4294967296 * k + 2147483648) 2147483648 (set sums (getD borders k d .from) u) (getD borders k d .to) a v x to-in is-v
-        (small-set (4398046511104 + 4294967296 * k) 2147483648 sums (getD borders k d .from) a u (negℤ x) from-in is-u (inv .small a low) (small-negℤ x fits)) fits);
-  }
+      (small-set (4398046511104 + 4294967296 * k) 2147483648 sums (getD borders k d .from) a u (negℤ x) from-in is-u (inv .small a low) (small-negℤ x fits)) fits);
+}
   where
     from-in : getD borders k d .from < length sums
     from-in = omega arith
+
     to-in : getD borders k d .to < length (set sums (getD borders k d .from) u)
     to-in = simp length-set (omega arith)
+
     small-negℤ : (z : ℤ) → Small 2147483648 z → Small 2147483648 (negℤ z)
     small-negℤ z p = record { least = omega (arith, ints, p .most); most = omega (arith, ints, p .least) }
+
     more : (a : ℕ) → flows-into a (take (k + 1) borders) xs ≡ flows-into a (take k borders) xs +ℤ added-by-border a (getD borders k d) x
     more a =
         flows-more a borders xs k h
@@ -173,9 +177,9 @@ pub record Turned (bids : List Bid) (xs : List ℕ) (k : ℕ) (sums : List ℤ) 
   pub more : Activations bids xs (k + 1) (set sums area (getD sums area (pos 0) +ℤ amount))
 
 pub turned : (ds : List ℤ) (bs : List Border) (os : List Bid) → ∥ Valid (case-of ds bs os) ∥₁ → (items : List Bid) → items ≡ os →
-  (xs : List ℕ) (k : ℕ) (sums : List ℤ) (area x : ℕ) (amount : ℤ) → k < length items →
-  area ≡ getD items k no-bid .area → x < 4294967296 → x ≡ getD xs k 0 → amount ≡ injected (getD items k no-bid .direction) x →
-  Activations os xs k sums → Turned os xs k sums area amount
+    (xs : List ℕ) (k : ℕ) (sums : List ℤ) (area x : ℕ) (amount : ℤ) → k < length items →
+    area ≡ getD items k no-bid .area → x < 4294967296 → x ≡ getD xs k 0 → amount ≡ injected (getD items k no-bid .direction) x →
+    Activations os xs k sums → Turned os xs k sums area amount
 turned ds bs os valid items same xs k sums area x amount h area-at small-x read amount-at inv =
     let within : k < length os = omega (arith, ap length same) in
     let area-is : area ≡ getD os k no-bid .area = area-at ∙ ap (λ (l : List Bid). getD l k no-bid .area) same in
@@ -187,10 +191,10 @@ turned ds bs os valid items same xs k sums area x amount h area-at small-x read 
     record {
       known = low;
       fits = fits-small (4294967296 * k + 4294967296) _ (omega arith)
-        (small-plus (4294967296 * k) 4294967296 _ _ (inv .small area low)
+          (small-plus (4294967296 * k) 4294967296 _ _ (inv .small area low)
           (subst (λ (z : ℤ). Small 4294967296 z) (sym amount-is) (small-injected (getD os k no-bid .direction) x small-x)));
       more = subst (λ (t : ℕ). Activations os xs (k + 1) (set sums t (getD sums area (pos 0) +ℤ amount))) (sym area-is)
-        (activations-more os xs k sums no-bid x (getD sums area (pos 0) +ℤ amount) (inv .long) within below small-x read
+          (activations-more os xs k sums no-bid x (getD sums area (pos 0) +ℤ amount) (inv .long) within below small-x read
           (ap (λ t. getD sums t (pos 0) +ℤ amount) area-is ∙ ap (λ z. getD sums (getD os k no-bid .area) (pos 0) +ℤ z) amount-is) inv);
     }
 
@@ -203,9 +207,9 @@ pub record Flowed (base : List ℤ) (borders : List Border) (xs : List ℤ) (k :
   pub more : Flowing base borders xs (k + 1) (set (set sums from (getD sums from (pos 0) +ℤ out)) to (getD (set sums from (getD sums from (pos 0) +ℤ out)) to (pos 0) +ℤ in′))
 
 pub flowed : (ds : List ℤ) (bs : List Border) (os : List Bid) → ∥ Valid (case-of ds bs os) ∥₁ → (items : List Border) → items ≡ bs →
-  (base : List ℤ) (xs : List ℤ) (k : ℕ) (sums : List ℤ) (from to : ℕ) (x out in′ : ℤ) → k < length items →
-  from ≡ getD items k no-border .from → to ≡ getD items k no-border .to → Small 2147483648 x → x ≡ getD xs k (pos 0) → out ≡ negℤ x → in′ ≡ x →
-  Flowing base bs xs k sums → Flowed base bs xs k sums from to out in′
+    (base : List ℤ) (xs : List ℤ) (k : ℕ) (sums : List ℤ) (from to : ℕ) (x out in′ : ℤ) → k < length items →
+    from ≡ getD items k no-border .from → to ≡ getD items k no-border .to → Small 2147483648 x → x ≡ getD xs k (pos 0) → out ≡ negℤ x → in′ ≡ x →
+    Flowing base bs xs k sums → Flowed base bs xs k sums from to out in′
 flowed ds bs os valid items same base xs k sums from to x out in′ h from-at to-at small-x read out-is in-is inv =
     let within : k < length bs = omega (arith, ap length same) in
     let from-is : from ≡ getD bs k no-border .from = from-at ∙ ap (λ (l : List Border). getD l k no-border .from) same in
@@ -222,19 +226,19 @@ flowed ds bs os valid items same base xs k sums from to x out in′ h from-at to
       from-known = from-low;
       to-known = to-low;
       out-fits = fits-small (4398046511104 + 4294967296 * k + 2147483648) _ (omega arith)
-        (small-plus (4398046511104 + 4294967296 * k) 2147483648 _ _ (inv .small from from-low) small-out);
+          (small-plus (4398046511104 + 4294967296 * k) 2147483648 _ _ (inv .small from from-low) small-out);
       in-fits = fits-small (4398046511104 + 4294967296 * k + 2147483648 + 2147483648) _ (omega arith)
-        (small-plus (4398046511104 + 4294967296 * k + 2147483648) 2147483648 _ _
+          (small-plus (4398046511104 + 4294967296 * k + 2147483648) 2147483648 _ _
           (small-set (4398046511104 + 4294967296 * k) 2147483648 sums from to _ out (omega arith) refl (inv .small to to-low) small-out) small-in);
       more =
-        subst (λ (p : ℕ). Flowing base bs xs (k + 1) (set (set sums p (getD sums from (pos 0) +ℤ out)) to (getD (set sums from (getD sums from (pos 0) +ℤ out)) to (pos 0) +ℤ in′))) (sym from-is)
-        (subst (λ (q : ℕ). Flowing base bs xs (k + 1) (set (set sums (getD bs k no-border .from) (getD sums from (pos 0) +ℤ out)) q (getD (set sums from (getD sums from (pos 0) +ℤ out)) to (pos 0) +ℤ in′))) (sym to-is)
-        (flowing-more base bs xs k sums no-border x (getD sums from (pos 0) +ℤ out) (getD (set sums from (getD sums from (pos 0) +ℤ out)) to (pos 0) +ℤ in′)
+          subst (λ (p : ℕ). Flowing base bs xs (k + 1) (set (set sums p (getD sums from (pos 0) +ℤ out)) to (getD (set sums from (getD sums from (pos 0) +ℤ out)) to (pos 0) +ℤ in′))) (sym from-is)
+          (subst (λ (q : ℕ). Flowing base bs xs (k + 1) (set (set sums (getD bs k no-border .from) (getD sums from (pos 0) +ℤ out)) q (getD (set sums from (getD sums from (pos 0) +ℤ out)) to (pos 0) +ℤ in′))) (sym to-is)
+          (flowing-more base bs xs k sums no-border x (getD sums from (pos 0) +ℤ out) (getD (set sums from (getD sums from (pos 0) +ℤ out)) to (pos 0) +ℤ in′)
           (inv .long) within from-below′ to-below′ small-x read
           (ap (λ t. getD sums t (pos 0) +ℤ out) from-is ∙ ap (λ z. getD sums (getD bs k no-border .from) (pos 0) +ℤ z) out-is)
           (ap (λ t. getD (set sums t (getD sums from (pos 0) +ℤ out)) to (pos 0) +ℤ in′) from-is
-            ∙ ap (λ t. getD (set sums (getD bs k no-border .from) (getD sums from (pos 0) +ℤ out)) t (pos 0) +ℤ in′) to-is
-            ∙ ap (λ z. getD (set sums (getD bs k no-border .from) (getD sums from (pos 0) +ℤ out)) (getD bs k no-border .to) (pos 0) +ℤ z) in-is)
+          ∙ ap (λ t. getD (set sums (getD bs k no-border .from) (getD sums from (pos 0) +ℤ out)) t (pos 0) +ℤ in′) to-is
+          ∙ ap (λ z. getD (set sums (getD bs k no-border .from) (getD sums from (pos 0) +ℤ out)) (getD bs k no-border .to) (pos 0) +ℤ z) in-is)
           inv));
     }
 
@@ -247,11 +251,12 @@ flowing-none base borders xs len small = record {
 
 -- at the end of the bids: the sums over all of them, none past 2^42
 pub activations-all : (ds : List ℤ) (bs : List Border) (os : List Bid) → ∥ Valid (case-of ds bs os) ∥₁ → (xs : List ℕ) (k : ℕ) (sums : List ℤ) → k ≡ length os → Activations os xs k sums →
-  ((a : ℕ) → a < 48 → getD sums a (pos 0) ≡ activated-in a os xs) × ((a : ℕ) → a < 48 → (negℤ (pos 4398046511104) ≤ℤ getD sums a (pos 0)) × (getD sums a (pos 0) ≤ℤ pos 4398046511104))
+    ((a : ℕ) → a < 48 → getD sums a (pos 0) ≡ activated-in a os xs) × ((a : ℕ) → a < 48 → (negℤ (pos 4398046511104) ≤ℤ getD sums a (pos 0)) × (getD sums a (pos 0) ≤ℤ pos 4398046511104))
 activations-all ds bs os valid xs k sums e inv =
-    let few : length os ≤ 1024 = few-bids ds bs os valid in
-    (λ a h. inv .sum a h ∙ ap (λ l. activated-in a l xs) (take-all k os (omega arith)),
-     λ a h. (omega (arith, ints, inv .small a h .least), omega (arith, ints, inv .small a h .most)))
+    let few : length os ≤ 1024 = few-bids ds bs os valid in (
+      λ a h. inv .sum a h ∙ ap (λ l. activated-in a l xs) (take-all k os (omega arith)),
+      λ a h. (omega (arith, ints, inv .small a h .least), omega (arith, ints, inv .small a h .most)),
+    )
 
 pub flowing-all : (base : List ℤ) (bs : List Border) (xs : List ℤ) (k : ℕ) (sums : List ℤ) → k ≡ length bs → Flowing base bs xs k sums → (a : ℕ) → a < 48 → getD sums a (pos 0) ≡ getD base a (pos 0) +ℤ flows-into a bs xs
 flowing-all base bs xs k sums e inv a h = inv .sum a h ∙ ap (λ l. getD base a (pos 0) +ℤ flows-into a l xs) (take-all k bs (omega arith))
@@ -271,5 +276,6 @@ outflow-is x y small fits e =
   where
     flow : Small 2147483648 x
     flow = small-flow x small
+
     minus : Small 2147483648 (pos 0 -ℤ x)
     minus = record { least = omega (arith, ints, flow .most); most = omega (arith, ints, flow .least) }

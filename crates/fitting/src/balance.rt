@@ -31,7 +31,11 @@ fn activations(book: &Book, proposal: &Proposal) -> [i64; AREAS]
 {
     let mut sums = [0; AREAS];
     for (place, bid) in book.bids.iter().enumerate() {
-        add(&mut sums, usize::from(bid.area), injection(bid.direction, proposal.activated(place)));
+        add(
+            &mut sums,
+            usize::from(bid.area),
+            injection(bid.direction, proposal.activated(place)),
+        );
     }
     sums
 }

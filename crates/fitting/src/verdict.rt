@@ -49,10 +49,34 @@ fn questions<S: Scale>(book: &Book, proposal: &Proposal) -> Result<(), Refusal>
     ask(&FlowAllowed { book, proposal })?;
     ask(&ActivatedAllowed { book, proposal })?;
     ask_balance(book, proposal)?;
-    ask(&PriceInRange::<S> { book, proposal, scale: PhantomData })?;
-    ask(&DemandFits::<S> { book, proposal, scale: PhantomData })?;
-    ask(&BorderFits::<S> { book, proposal, scale: PhantomData })?;
-    ask(&BidFits::<S> { book, proposal, scale: PhantomData })
+    ask(
+        &PriceInRange::<S> {
+            book,
+            proposal,
+            scale: PhantomData,
+        },
+    )?;
+    ask(
+        &DemandFits::<S> {
+            book,
+            proposal,
+            scale: PhantomData,
+        },
+    )?;
+    ask(
+        &BorderFits::<S> {
+            book,
+            proposal,
+            scale: PhantomData,
+        },
+    )?;
+    ask(
+        &BidFits::<S> {
+            book,
+            proposal,
+            scale: PhantomData,
+        },
+    )
 }
 
 // Does every area balance?
@@ -60,5 +84,11 @@ fn ask_balance(book: &Book, proposal: &Proposal) -> Result<(), Refusal>
     ensures { λ r. ⌜ r ≡ asked (balances (held (now (book .entry))) (selection-held (now (proposal .entry)))) (areas (held (now (book .entry)))) Balance ⌝ }
 {
     let sums = balance_sheet(book, proposal);
-    ask(&AreaBalances { book, proposal, sums: &sums })
+    ask(
+        &AreaBalances {
+            book,
+            proposal,
+            sums: &sums,
+        },
+    )
 }

@@ -53,6 +53,7 @@ valid-withdrawn ds bs os k h v = record {
     second : (p q : Bool) → T (p && q) → T q
     second true q t = t
     second false q t = absurd t
+
     priced : T (bid-in-range (getD os k no-bid)) → T (bid-in-range (emptied (getD os k no-bid)))
     priced t = second (leb (getD os k no-bid .volume) 9999000) _ t
 

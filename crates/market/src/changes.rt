@@ -40,7 +40,12 @@ impl Book {
         if !is_limit_in_range(forward, backward) {
             return Err(Refusal::Limits(border));
         }
-        self.borders[border] = Border { from: old.from, to: old.to, forward, backward };
+        self.borders[border] = Border {
+            from: old.from,
+            to: old.to,
+            forward,
+            backward,
+        };
         Ok(())
     }
 
@@ -52,7 +57,12 @@ impl Book {
         let Some(old) = self.bids.get(bid).copied() else {
             return Err(Refusal::Unknown(bid));
         };
-        self.bids[bid] = Bid { area: old.area, direction: old.direction, volume: 0, price: old.price };
+        self.bids[bid] = Bid {
+            area: old.area,
+            direction: old.direction,
+            volume: 0,
+            price: old.price,
+        };
         Ok(())
     }
 }

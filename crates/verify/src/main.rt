@@ -65,7 +65,10 @@ fn asked(rt: &LibcRuntime) -> Result<Task, AnyError> {
     let mut words = env::args(rt)?;
     let _program = words.next();
     let Some(first) = words.next() else {
-        return Ok(Task::Verify(String::from_str(rt.alloc(), "case")?, String::from_str(rt.alloc(), "proposal")?));
+        return Ok(Task::Verify(
+            String::from_str(rt.alloc(), "case")?,
+            String::from_str(rt.alloc(), "proposal")?,
+        ));
     };
     let Some(second) = words.next() else {
         return match first.as_str() {
@@ -128,9 +131,41 @@ fn release(rt: &LibcRuntime, listing: &[u8]) -> Result<(), AnyError> {
 // The netting scale where word 7 of the proposal is there and is 1, else the activation scale.
 fn judge(heap: Global, case: &[u8], proposal: &[u8]) -> Result<Verdict, AllocError> {
     match proposal {
-        [_, _, _, _, _, _, _, _, _, _, _, _, _, _, _, _, _, _, _, _, _, _, _, _, _, _, _, _, 1, 0, 0, 0, ..] => {
-            judge_on::<Netting>(heap, case, proposal)
-        }
+        [
+            _,
+            _,
+            _,
+            _,
+            _,
+            _,
+            _,
+            _,
+            _,
+            _,
+            _,
+            _,
+            _,
+            _,
+            _,
+            _,
+            _,
+            _,
+            _,
+            _,
+            _,
+            _,
+            _,
+            _,
+            _,
+            _,
+            _,
+            _,
+            1,
+            0,
+            0,
+            0,
+            ..
+        ] => { judge_on::<Netting>(heap, case, proposal) }
         _ => judge_on::<Activation>(heap, case, proposal),
     }
 }

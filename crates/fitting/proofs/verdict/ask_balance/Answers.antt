@@ -17,5 +17,5 @@ returns c =
     let few : length (vec-items (c .args .book .now .demands)) ≤ 48 = ∥∥₁-elim (c .args .book .now .valid) le-prop (λ v. v .few-areas) in
     c .ask .ensures
     ∙ ask-same _ _ _ _ (λ a h.
-        ap (λ z. leZ z (satisfied-at (selection-held (c .args .proposal .now)) a) && leZ (satisfied-at (selection-held (c .args .proposal .now)) a) z)
-        (c .balance-sheet-sums .ensures a (omega arith)))
+    ap (λ z. leZ z (satisfied-at (selection-held (c .args .proposal .now)) a) && leZ (satisfied-at (selection-held (c .args .proposal .now)) a) z)
+    (c .balance-sheet-sums .ensures a (omega arith)))

@@ -14,12 +14,12 @@ pub returns : need.returns
 returns g c = record {
   answer = c .questions .ensures;
   unbeaten = λ yes-it-is counts.
-    let e = sym (c .questions .ensures) ∙ yes-it-is in
-    record {
-      within = within-from-passed (g .S·Scale .meaning) (held (c .args .book .now)) (selection-held (c .args .proposal .now)) (price-held (g .S·Scale .meaning) (c .args .proposal .now)) counts
-        (passed-from-judged (g .S·Scale .meaning) (held (c .args .book .now)) (selection-held (c .args .proposal .now)) (price-held (g .S·Scale .meaning) (c .args .proposal .now)) e);
-      best = λ y beats. ∥∥₁-elim (c .args .book .now .valid) (T-prop false) (λ valid.
-        judged-unbeaten (g .S·Scale .meaning) (g .S·Scale·met .lawful) (held (c .args .book .now)) valid (selection-held (c .args .proposal .now))
-        (λ a. price-part (levels-of (c .args .proposal .now)) (prices-bytes (c .args .proposal .now)) a) counts e .best y beats);
-    };
+      let e = sym (c .questions .ensures) ∙ yes-it-is in
+      record {
+        within = within-from-passed (g .S·Scale .meaning) (held (c .args .book .now)) (selection-held (c .args .proposal .now)) (price-held (g .S·Scale .meaning) (c .args .proposal .now)) counts
+            (passed-from-judged (g .S·Scale .meaning) (held (c .args .book .now)) (selection-held (c .args .proposal .now)) (price-held (g .S·Scale .meaning) (c .args .proposal .now)) e);
+        best = λ y beats. ∥∥₁-elim (c .args .book .now .valid) (T-prop false) (λ valid.
+            judged-unbeaten (g .S·Scale .meaning) (g .S·Scale·met .lawful) (held (c .args .book .now)) valid (selection-held (c .args .proposal .now))
+            (λ a. price-part (levels-of (c .args .proposal .now)) (prices-bytes (c .args .proposal .now)) a) counts e .best y beats);
+      };
 }

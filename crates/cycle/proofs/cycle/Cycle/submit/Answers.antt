@@ -11,10 +11,10 @@ returns g c = record {
   answer = c .settle .ensures .answer;
   after = c .settle .ensures .after;
   unbeaten = λ yes-it-is.
-    let e = sym (c .settle .ensures .answer) ∙ yes-it-is in
-    record {
-      within = submit-within (g .S·Scale .meaning) (held (c .args .self .now .holdings .book)) (c .args .bytes .now) e;
-      best = λ y beats. ∥∥₁-elim (c .args .self .now .holdings .book .valid) (T-prop false) (λ valid.
-        submit-unbeaten (g .S·Scale .meaning) (held (c .args .self .now .holdings .book)) (c .args .bytes .now) (g .S·Scale·met .lawful) valid e .best y beats);
-    };
+      let e = sym (c .settle .ensures .answer) ∙ yes-it-is in
+      record {
+        within = submit-within (g .S·Scale .meaning) (held (c .args .self .now .holdings .book)) (c .args .bytes .now) e;
+        best = λ y beats. ∥∥₁-elim (c .args .self .now .holdings .book .valid) (T-prop false) (λ valid.
+            submit-unbeaten (g .S·Scale .meaning) (held (c .args .self .now .holdings .book)) (c .args .bytes .now) (g .S·Scale·met .lawful) valid e .best y beats);
+      };
 }

@@ -15,6 +15,8 @@ pub ghost-self : need.ghost-self
 ghost-self c =
     let ok : (leb (c .args .forward) 20000000 && leb (c .args .backward) 20000000) ≡ true = search needs in
     let old : getD (vec-items (c .args .self .now .borders)) (c .args .border) no-border ≡ c .in-Some .old = search needs in
-    let within : c .args .border < length (vec-items (c .args .self .now .borders)) = search needs in
-    (truncated (λ v. subst (λ (b : Border). Valid (case-of (vec-items (c .args .self .now .demands)) (set (vec-items (c .args .self .now .borders)) (c .args .border) (with-limits b (c .args .forward) (c .args .backward))) (vec-items (c .args .self .now .bids)))) old
-        (valid-limited _ _ _ (c .args .border) (c .args .forward) (c .args .backward) within (subst T (sym ok) tt) v)) (c .args .self .now .valid), search needs)
+    let within : c .args .border < length (vec-items (c .args .self .now .borders)) = search needs in (
+      truncated (λ v. subst (λ (b : Border). Valid (case-of (vec-items (c .args .self .now .demands)) (set (vec-items (c .args .self .now .borders)) (c .args .border) (with-limits b (c .args .forward) (c .args .backward))) (vec-items (c .args .self .now .bids)))) old
+          (valid-limited _ _ _ (c .args .border) (c .args .forward) (c .args .backward) within (subst T (sym ok) tt) v)) (c .args .self .now .valid),
+      search needs,
+    )

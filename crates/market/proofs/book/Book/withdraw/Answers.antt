@@ -23,7 +23,9 @@ pub ghost-self : need.ghost-self
 ghost-self c =
     let within : c .args .bid < length (vec-items (c .args .self .now .bids)) = search needs in
     let old : getD (vec-items (c .args .self .now .bids)) (c .args .bid) no-bid ≡ c .in-Some .old = search needs in
-    let fits : SFits w32 (c .in-Some .old .price) = search needs in
-    (truncated (λ v. subst (λ (b : Bid). Valid (case-of (vec-items (c .args .self .now .demands)) (vec-items (c .args .self .now .borders)) (set (vec-items (c .args .self .now .bids)) (c .args .bid) b)))
-        (ap emptied old ∙ priced (c .in-Some .old) (toZ w32 (ofZ w32 (c .in-Some .old .price))) (toZ-ofZ w32 (c .in-Some .old .price) fits))
-        (valid-withdrawn _ _ _ (c .args .bid) within v)) (c .args .self .now .valid), search needs)
+    let fits : SFits w32 (c .in-Some .old .price) = search needs in (
+      truncated (λ v. subst (λ (b : Bid). Valid (case-of (vec-items (c .args .self .now .demands)) (vec-items (c .args .self .now .borders)) (set (vec-items (c .args .self .now .bids)) (c .args .bid) b)))
+          (ap emptied old ∙ priced (c .in-Some .old) (toZ w32 (ofZ w32 (c .in-Some .old .price))) (toZ-ofZ w32 (c .in-Some .old .price) fits))
+          (valid-withdrawn _ _ _ (c .args .bid) within v)) (c .args .self .now .valid),
+      search needs,
+    )
