@@ -51,7 +51,13 @@ module _ (m : Meaning) (c : Case) (bs : List ℕ) where
         activated-count = ap length (records-part little-endian 4 (length (c .bids)) (activated-offset (counts-of c)) bs (omega arith) (omega arith)) ∙ length-table little-endian 4 (length (c .bids)) (drop (activated-offset (counts-of c)) bs);
       }
 
-  -- a submit that is taken leaves a selection that nothing beats
+  -- a submit that is taken leaves a selection within the limits
+  pub submit-within : submit-answer m c bs ≡ Ok tt → WithinLimits c (proposed c bs)
+  submit-within e =
+      let both = both-from-and-then _ _ e in
+      within-from-passed m c (proposed c bs) (price-in m c bs) (counted-bytes (both .0)) (passed-from-judged m c (proposed c bs) (price-in m c bs) (both .1))
+
+  -- and one that nothing beats
   pub submit-unbeaten : Laws m → Valid c → submit-answer m c bs ≡ Ok tt → Unbeaten m c (proposed c bs)
   submit-unbeaten laws valid e =
       let both = both-from-and-then _ _ e in

@@ -1,8 +1,10 @@
 // A cycle, made for one scale of cost.
 ghost use mathlib.Core.Path.{_≡_};
 ghost use Rattle.std.specs.Vec.{made};
+ghost use Rattle.std.specs.declared.result.Result.the-variants.{Ok};
+ghost use Rattle.market.specs.Totals.{Unbeaten};
 ghost use Rattle.cycle.specs.States.{fresh};
-ghost use Rattle.cycle.specs.Calls.{after, load-answer, loaded, submit-answer, submitted, changed, answer-to, next, write-answer, write-after};
+ghost use Rattle.cycle.specs.Calls.{after, load-answer, loaded, submit-answer, submitted, proposed, changed, answer-to, next, write-answer, write-after};
 ghost use Rattle.cycle.specs.Sent.{sent, read-answer};
 ghost use Rattle.market.specs.Changes.{revise-answer, revised, limit-answer, limited, withdraw-answer, withdrawn};
 ghost use Rattle.cycle.specs.Totals.{standing-totals};
@@ -96,6 +98,15 @@ impl<S: Scale> Cycle<S> {
 
     // Makes the selection in the bytes the standing one, if the prices sent with it show that nothing beats it.
     pub fn submit(&mut self, bytes: &[u8]) -> Result<(), Refusal>
+        ensures answer { λ r. ⌜ r ≡ submit-answer (S·Scale .meaning) (view (now (self .entry)) .case) (now (bytes .entry)) ⌝ }
+        ensures after { λ r. ⌜ view (now (self .exit)) ≡ after r (view (now (self .entry))) (submitted (view (now (self .entry)) .case) (now (bytes .entry))) ⌝ }
+        ensures unbeaten { λ r. ⌜ (r ≡ Ok tt → Unbeaten (S·Scale .meaning) (view (now (self .entry)) .case) (proposed (view (now (self .entry)) .case) (now (bytes .entry)))) ⌝ }
+    {
+        self.settle(bytes)
+    }
+
+    // Asks every question, and only then keeps the amounts.
+    fn settle(&mut self, bytes: &[u8]) -> Result<(), Refusal>
         ensures answer { λ r. ⌜ r ≡ submit-answer (S·Scale .meaning) (view (now (self .entry)) .case) (now (bytes .entry)) ⌝ }
         ensures after { λ r. ⌜ view (now (self .exit)) ≡ after r (view (now (self .entry))) (submitted (view (now (self .entry)) .case) (now (bytes .entry))) ⌝ }
     {

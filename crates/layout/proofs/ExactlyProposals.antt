@@ -323,11 +323,18 @@ module _ (n : Counts) (levels : ℕ) (bs : List ℕ) (bytewise : Bytewise bs) (y
       ∙ (part-join 0 36 (4 * n .areas + (4 * n .borders + (4 * n .bids + 8 * levels * n .areas))) 36 bs refl
       ∙ take-all (36 + (4 * n .areas + (4 * n .borders + (4 * n .bids + 8 * levels * n .areas)))) bs (omega (arith, end))))))))))
 
+only-one : (n : Counts) (levels : ℕ) (s : Selection) (prices : List (List ℤ)) (bs : List ℕ) → Bytewise bs → proposal-answer n levels bs ≡ Ok tt
+    → selection-in n bs ≡ s → prices-in n levels bs ≡ prices → bs ≡ proposal-bytes n levels s prices
+only-one n levels s prices bs bytewise yes-here same prices-same =
+    sym (bytes-back n levels bs bytewise yes-here)
+    ∙ (ap (λ x. proposal-bytes n levels x (prices-in n levels bs)) same ∙ ap (proposal-bytes n levels s) prices-same)
+
 pub proposal-layout : ProposalLayout
 proposal-layout = record {
   taken = taken;
   selection-back = selection-back;
   prices-back = prices-back;
   bytes-back = bytes-back;
+  only-one = only-one;
   as-written = as-written;
 }
