@@ -1,1 +1,4 @@
+pub mod Kept
+pub mod SentWith
 pub mod Submitted
+pub mod Replayed

@@ -11,9 +11,11 @@ use Rattle.std.specs.declared.option.Option.{Option}
 use Rattle.std.specs.declared.result.Result.{Result}
 use Rattle.std.specs.declared.result.Result.the-variants.{Ok, Err}
 use Rattle.std.proofs.shelf.Tests.{and-from, le-leb}
-use Rattle.scale.specs.Meaning.{Meaning}
+use Rattle.scale.specs.Meaning.{Meaning, Laws}
 use Rattle.scale.specs.Levels.{little-endian, read-bytes}
-use Rattle.market.specs.Cases.{Case}
+use Rattle.market.specs.Cases.{Case, Valid}
+use Rattle.market.specs.Totals.{Unbeaten}
+use Rattle.market.proofs.Firsts.{both-from-and-then}
 use Rattle.market.specs.Selections.{Selection, WithinLimits}
 use Rattle.market.specs.First.{and-then}
 use Rattle.market.specs.declared.refusal.Refusal.{Refusal}
@@ -27,6 +29,7 @@ use Rattle.layout.proofs.Proposals.{taken-length}
 use Rattle.layout.proofs.Tables.{records-part, length-table}
 use Rattle.fitting.specs.Judged.{judged, OneForEach}
 use Rattle.fitting.specs.Priced.{price-held}
+use Rattle.fitting.proofs.Best.{judged-unbeaten}
 use Rattle.fitting.proofs.Passed.{passed-from-judged, within-from-passed}
 use Rattle.cycle.specs.Calls.{proposed, price-in, submit-answer}
 
@@ -37,25 +40,32 @@ pub record Taken (m : Meaning) (c : Case) (bs : List ℕ) (p : Proposal) : Type 
   pub enough : few p ≡ true
   pub within : WithinLimits c (selection-held p)
 
-module _ (m : Meaning) (c : Case) (bs : List ℕ) (p : Proposal) where
+module _ (m : Meaning) (c : Case) (bs : List ℕ) where
   -- the amounts in the sections of a proposal are as many as the case's records
-  counted : proposal-answer (counts-of c) (m .levels) bs ≡ Ok tt → Holds (counts-of c) (m .levels) bs p → OneForEach c (selection-held p)
-  counted e holds =
+  pub counted-bytes : proposal-answer (counts-of c) (m .levels) bs ≡ Ok tt → OneForEach c (proposed c bs)
+  counted-bytes e =
       let long : length bs ≡ proposal-end (counts-of c) (m .levels) = taken-length (counts-of c) (m .levels) bs e in
       record {
-        satisfied-count = ap (λ b. length (signed-amounts b)) (holds .satisfied)
-          ∙ (ap length (records-part signed-word 4 (length (c .demands)) 36 bs (omega arith) (omega arith)) ∙ length-table signed-word 4 (length (c .demands)) (drop 36 bs));
-        flows-count = ap (λ b. length (signed-amounts b)) (holds .flows)
-          ∙ (ap length (records-part signed-word 4 (length (c .borders)) (flows-offset (counts-of c)) bs (omega arith) (omega arith)) ∙ length-table signed-word 4 (length (c .borders)) (drop (flows-offset (counts-of c)) bs));
-        activated-count = ap (λ b. length (unsigned-amounts b)) (holds .activated)
-          ∙ (ap length (records-part little-endian 4 (length (c .bids)) (activated-offset (counts-of c)) bs (omega arith) (omega arith)) ∙ length-table little-endian 4 (length (c .bids)) (drop (activated-offset (counts-of c)) bs));
+        satisfied-count = ap length (records-part signed-word 4 (length (c .demands)) 36 bs (omega arith) (omega arith)) ∙ length-table signed-word 4 (length (c .demands)) (drop 36 bs);
+        flows-count = ap length (records-part signed-word 4 (length (c .borders)) (flows-offset (counts-of c)) bs (omega arith) (omega arith)) ∙ length-table signed-word 4 (length (c .borders)) (drop (flows-offset (counts-of c)) bs);
+        activated-count = ap length (records-part little-endian 4 (length (c .bids)) (activated-offset (counts-of c)) bs (omega arith) (omega arith)) ∙ length-table little-endian 4 (length (c .bids)) (drop (activated-offset (counts-of c)) bs);
       }
 
+  -- a submit that is taken leaves a selection that nothing beats
+  pub submit-unbeaten : Laws m → Valid c → submit-answer m c bs ≡ Ok tt → Unbeaten m c (proposed c bs)
+  submit-unbeaten laws valid e =
+      let both = both-from-and-then _ _ e in
+      judged-unbeaten m laws c valid (proposed c bs) (λ a. price-part (m .levels) (prices-part (counts-of c) (m .levels) bs) a) (counted-bytes (both .0)) (both .1)
+
+module _ (m : Meaning) (c : Case) (bs : List ℕ) (p : Proposal) where
   selection-same : Holds (counts-of c) (m .levels) bs p → selection-held p ≡ proposed c bs
   selection-same holds =
       ap (λ b. selection-of b (flows-bytes p) (activated-bytes p)) (holds .satisfied)
       ∙ (ap (λ b. selection-of (satisfied-part (counts-of c) bs) b (activated-bytes p)) (holds .flows)
       ∙ ap (λ b. selection-of (satisfied-part (counts-of c) bs) (flows-part (counts-of c) bs) b) (holds .activated))
+
+  counted : proposal-answer (counts-of c) (m .levels) bs ≡ Ok tt → Holds (counts-of c) (m .levels) bs p → OneForEach c (selection-held p)
+  counted e holds = subst (λ (s : Selection). OneForEach c s) (sym (selection-same holds)) (counted-bytes m c bs e)
 
   judged-same : Holds (counts-of c) (m .levels) bs p → judged m c (selection-held p) (price-held m p) ≡ judged m c (proposed c bs) (price-in m c bs)
   judged-same holds =

@@ -5,8 +5,10 @@ ghost use Rattle.market.specs.Held.{held, selected};
 ghost use Rattle.listing.specs.Lines.{listing};
 ghost use Rattle.listing.specs.View.{text-of};
 ghost use Rattle.cycle.specs.Calls.{release-answer, released, write-answer, write-after};
+ghost use Rattle.cycle.specs.Sent.{read-answer};
 ghost use Rattle.cycle.specs.Totals.{standing-totals};
 ghost use Rattle.cycle.specs.View.{closed-view};
+use crate::calls::Item;
 use crate::holdings::Holdings;
 use crate::out::copy_out;
 use listing::Text;
@@ -24,6 +26,13 @@ pub struct Closed<S> {
 }
 
 impl<S> Closed<S> {
+    // The standing amount of an area, border or bid.
+    pub fn read(&self, item: Item) -> Result<i64, Refusal>
+        ensures { λ r. ⌜ r ≡ read-answer (closed-view (now (self .entry)) .case) (closed-view (now (self .entry)) .standing) item ⌝ }
+    {
+        self.holdings.read(item)
+    }
+
     // Puts the bytes of the case into a buffer; says how many they are.
     pub fn write(&self, out: &mut [u8]) -> Result<usize, Refusal>
         ensures answer { λ r. ⌜ r ≡ write-answer (closed-view (now (self .entry)) .case) (now (out .entry)) ⌝ }

@@ -2,9 +2,14 @@
 ghost use mathlib.Core.Path.{_≡_};
 ghost use Rattle.std.specs.Vec.{made};
 ghost use Rattle.cycle.specs.States.{fresh};
-ghost use Rattle.cycle.specs.Calls.{after, load-answer, loaded, submit-answer, submitted, write-answer, write-after};
+ghost use Rattle.cycle.specs.Calls.{after, load-answer, loaded, submit-answer, submitted, changed, answer-to, next, write-answer, write-after};
+ghost use Rattle.cycle.specs.Sent.{sent, read-answer};
+ghost use Rattle.market.specs.Changes.{revise-answer, revised, limit-answer, limited, withdraw-answer, withdrawn};
 ghost use Rattle.cycle.specs.Totals.{standing-totals};
 ghost use Rattle.cycle.specs.View.{view, closed-view};
+use crate::calls::Answer;
+use crate::calls::Call;
+use crate::calls::Item;
 use crate::closed::Closed;
 use crate::holdings::Holdings;
 use layout::Counts;
@@ -53,6 +58,42 @@ impl<S: Scale> Cycle<S> {
         answer
     }
 
+    // Sets an area's demand, and ends what stood.
+    pub fn revise(&mut self, area: usize, demand: i32) -> Result<(), Refusal>
+        ensures answer { λ r. ⌜ r ≡ revise-answer (view (now (self .entry)) .case) area demand ⌝ }
+        ensures after { λ r. ⌜ view (now (self .exit)) ≡ after r (view (now (self .entry))) (changed (revised (view (now (self .entry)) .case) area demand)) ⌝ }
+    {
+        let stood = self.holdings.stands;
+        self.holdings.stands = false;
+        let answer = self.holdings.book.revise(area, demand);
+        self.holdings.stands = stood && answer.is_err();
+        answer
+    }
+
+    // Sets a border's two limits, and ends what stood.
+    pub fn limit(&mut self, border: usize, forward: u32, backward: u32) -> Result<(), Refusal>
+        ensures answer { λ r. ⌜ r ≡ limit-answer (view (now (self .entry)) .case) border forward backward ⌝ }
+        ensures after { λ r. ⌜ view (now (self .exit)) ≡ after r (view (now (self .entry))) (changed (limited (view (now (self .entry)) .case) border forward backward)) ⌝ }
+    {
+        let stood = self.holdings.stands;
+        self.holdings.stands = false;
+        let answer = self.holdings.book.limit(border, forward, backward);
+        self.holdings.stands = stood && answer.is_err();
+        answer
+    }
+
+    // Makes a bid's volume 0, and ends what stood.
+    pub fn withdraw(&mut self, bid: usize) -> Result<(), Refusal>
+        ensures answer { λ r. ⌜ r ≡ withdraw-answer (view (now (self .entry)) .case) bid ⌝ }
+        ensures after { λ r. ⌜ view (now (self .exit)) ≡ after r (view (now (self .entry))) (changed (withdrawn (view (now (self .entry)) .case) bid)) ⌝ }
+    {
+        let stood = self.holdings.stands;
+        self.holdings.stands = false;
+        let answer = self.holdings.book.withdraw(bid);
+        self.holdings.stands = stood && answer.is_err();
+        answer
+    }
+
     // Makes the selection in the bytes the standing one, if the prices sent with it show that nothing beats it.
     pub fn submit(&mut self, bytes: &[u8]) -> Result<(), Refusal>
         ensures answer { λ r. ⌜ r ≡ submit-answer (S·Scale .meaning) (view (now (self .entry)) .case) (now (bytes .entry)) ⌝ }
@@ -68,6 +109,28 @@ impl<S: Scale> Cycle<S> {
         layout::keep(&mut self.holdings.amounts, &proposal);
         self.holdings.stands = true;
         Ok(())
+    }
+
+    // The standing amount of an area, border or bid.
+    pub fn read(&self, item: Item) -> Result<i64, Refusal>
+        ensures { λ r. ⌜ r ≡ read-answer (view (now (self .entry)) .case) (view (now (self .entry)) .standing) item ⌝ }
+    {
+        self.holdings.read(item)
+    }
+
+    // Makes any of these calls.
+    pub fn make(&mut self, call: Call) -> Answer
+        ensures answer { λ r. ⌜ r ≡ answer-to (S·Scale .meaning) (view (now (self .entry))) (sent (call .entry)) ⌝ }
+        ensures after { λ _. ⌜ view (now (self .exit)) ≡ next (S·Scale .meaning) (view (now (self .entry))) (sent (call .entry)) ⌝ }
+    {
+        match call {
+            Call::Load(bytes) => Answer::of_call(self.load(bytes)),
+            Call::Revise(area, demand) => Answer::of_call(self.revise(area, demand)),
+            Call::Limit(border, forward, backward) => Answer::of_call(self.limit(border, forward, backward)),
+            Call::Withdraw(bid) => Answer::of_call(self.withdraw(bid)),
+            Call::Submit(bytes) => Answer::of_call(self.submit(bytes)),
+            Call::Read(item) => Answer::of_read(self.read(item)),
+        }
     }
 
     // Puts the bytes of the case into a buffer; says how many they are.

@@ -1,4 +1,5 @@
 pub mod Balances
+pub mod Best
 pub mod Passed
 pub mod Settled
 pub mod Sheets

@@ -7,3 +7,6 @@ mod selection;
 mod verdict;
 
 pub use verdict::judge;
+
+#[cfg(test)]
+mod tests;

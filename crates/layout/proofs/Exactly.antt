@@ -40,6 +40,13 @@ is-true : (t : Bool) → T t → t ≡ true
 is-true true h = refl
 is-true false h = absurd h
 
+pub pick : (t a b : Bool) → a ≡ true → b ≡ true → cond t a b ≡ true
+pick true a b h k = h
+pick false a b h k = k
+
+pub both : (a b : Bool) → a ≡ true → b ≡ true → a && b ≡ true
+both a b h k = ap (λ x. x && b) h ∙ k
+
 demand-fits : (d : ℤ) → T (demand-in-range d) → SFits w32 d
 demand-fits d h =
     let both = is-true (demand-in-range d) h in
@@ -147,13 +154,6 @@ module _ (c : Case) (valid : Valid c) where
       ∙ (ap (λ b. case-of (c .demands) b (table bid-of 12 o (drop (28 + 4 * n + 12 * m) (written c)))) borders ∙ ap (case-of (c .demands) (c .borders)) bids))
 
   -- every question passes on what was written
-  pick : (t a b : Bool) → a ≡ true → b ≡ true → cond t a b ≡ true
-  pick true a b h k = h
-  pick false a b h k = k
-
-  both : (a b : Bool) → a ≡ true → b ≡ true → a && b ≡ true
-  both a b h k = ap (λ x. x && b) h ∙ k
-
   counts-fine : (bids : Bool) → BidsAllowed bids c → (k : ℕ) → count-allowed bids header k ≡ true
   counts-fine bids allowed k =
       pick (eqb k 1) (leb n 48) _ (le-leb n 48 (valid .few-areas))

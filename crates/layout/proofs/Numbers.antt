@@ -6,11 +6,13 @@ use native.Mathlib.Nat.{div-div-eq-div-mul}
 use native.Mathlib.Omega.{arith}
 use lib.IntN.{ℤ}
 use lib.ListN.{length, take, drop, getD}
-use mir.Syntax.{w32}
-use mir.Val.{toZ, ofZ, SFits}
+use mir.Syntax.{w8, w32}
+use mir.Val.{toZ, ofZ, SFits, Fits}
+use Rattle.std.proofs.shelf.Elements.{all-from-getD}
 use Rattle.std.proofs.shelf.Signed.{toZ-ofZ}
 use Rattle.scale.specs.Levels.{little-endian}
 use Rattle.layout.specs.Bytes.{bytes-of}
+use Rattle.layout.specs.Exact.{Bytewise}
 
 -- four bytes, as `from_le_bytes` adds them
 pub four : (bs : List ℕ) → 4 ≤ length bs → getD bs 0 0 + getD bs 1 0 * 256 + getD bs 2 0 * 65536 + getD bs 3 0 * 16777216 ≡ little-endian (take 4 bs)
@@ -41,3 +43,7 @@ pub twelve-bytes : (p q r s : List ℕ) (a b c d : ℕ) → p ≡ bytes-of 2 a �
     → twelve p q r s ≡ bytes-of 2 a ++ (bytes-of 2 b ++ (bytes-of 4 c ++ bytes-of 4 d))
 twelve-bytes p q r s a b c d e f g h =
     ap (λ x. twelve x q r s) e ∙ (ap (λ x. twelve (bytes-of 2 a) x r s) f ∙ (ap (λ x. twelve (bytes-of 2 a) (bytes-of 2 b) x s) g ∙ ap (twelve (bytes-of 2 a) (bytes-of 2 b) (bytes-of 4 c)) h))
+
+-- what a slice of bytes holds are bytes
+pub bytewise : (bs : List ℕ) → ((i : ℕ) → Fits w8 (getD bs i 0)) → Bytewise bs
+bytewise bs fits = all-from-getD (λ b. b < 256) bs 0 (λ i below. fits i .fits)

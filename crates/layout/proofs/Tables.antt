@@ -99,15 +99,15 @@ module _ {X : Type 0} (f : List ℕ → X) (s : ℕ) where
   read bs q k o d r e is out = out ∙ (ap (λ x. valueOr x d) (is ∙ ap (λ x. record-at f s x k) e) ∙ valueOr-record-at bs k d)
 
   -- one record more
-  pub fill-more : (bs : List ℕ) (items later : List X) (n m : ℕ) (x : X) → items ≡ table f s n bs → Some x ≡ record-at f s bs n → later ≡ items ++ (x ∷ []) → m ≡ n + 1
+  pub fill-more : (bs : List ℕ) (items later : List X) (n k m : ℕ) (x : X) → items ≡ table f s n bs → k ≡ n → Some x ≡ record-at f s bs k → later ≡ items ++ (x ∷ []) → m ≡ n + 1
       → (later ≡ table f s m bs) × (m ≤ length bs / s)
-  fill-more bs items later n m x e is more up = elim (decLt n (length bs / s)) [
+  fill-more bs items later n k m x e at is more up = elim (decLt n (length bs / s)) [
     | yes h ↦ (
-      let same : x ≡ f (part (s * n) s bs) = cc (record-at-within bs n h) in
+      let same : x ≡ f (part (s * n) s bs) = cc (record-at-within bs n h, ap (record-at f s bs) at) in
           more ∙ (ap (λ l. l ++ (x ∷ [])) e ∙ (ap (λ y. table f s n bs ++ (y ∷ [])) same ∙ (sym (table-push n bs) ∙ ap (λ k. table f s k bs) (sym (up ∙ add-one n))))),
       omega arith,
     )
-    | no h ↦ let z : _≡_ {A = ℕ} 0 1 = cc (record-at-past bs n (omega arith)) in absurd (omega arith)
+    | no h ↦ let z : _≡_ {A = ℕ} 0 1 = cc (record-at-past bs n (omega arith), ap (record-at f s bs) at) in absurd (omega arith)
   ]
 
 pub signed-read : (f : List ℕ → ℤ) (s : ℕ) (bs q : List ℕ) (k : ℕ) (o : Option ℤ) (d r : ℤ) → SFits w32 r → q ≡ bs → o ≡ record-at f s q k → r ≡ valueOr o d

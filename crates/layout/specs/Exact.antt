@@ -74,6 +74,9 @@ pub record ProposalLayout : Type 0 where
   -- and taken bytes come back from what they hold
   pub bytes-back : (n : Counts) (levels : ℕ) (bs : List ℕ) → Bytewise bs → proposal-answer n levels bs ≡ Ok tt
       → proposal-bytes n levels (selection-in n bs) (prices-in n levels bs) ≡ bs
+  -- so no other bytes hold the same selection and prices
+  pub only-one : (n : Counts) (levels : ℕ) (s : Selection) (prices : List (List ℤ)) (bs : List ℕ) → Bytewise bs → proposal-answer n levels bs ≡ Ok tt
+      → selection-in n bs ≡ s → prices-in n levels bs ≡ prices → bs ≡ proposal-bytes n levels s prices
   -- the same bytes, with the prices' numbers in one list
   pub as-written : (n : Counts) (levels : ℕ) (s : Selection) (prices : List (List ℤ)) → Writable n levels s prices
       → proposal-bytes n levels s prices ≡ proposal-written levels s (all-levels prices)

@@ -6,7 +6,7 @@ ghost use lib.ListN.{length};
 ghost use Rattle.std.specs.Results.{isOk};
 ghost use Rattle.std.specs.Vec.{made};
 ghost use Rattle.layout.specs.Headers.{case-header-of};
-ghost use Rattle.layout.specs.CaseBytes.{end-by, bytes-answer, records-answer, case-answer, case-in};
+ghost use Rattle.layout.specs.CaseBytes.{end-by, bytes-answer, records-answer, case-answer, case-in, written};
 ghost use Rattle.layout.specs.CaseReaders.{case-read, direction-fine, case-held, Parts};
 ghost use Rattle.layout.specs.Sections.{forget};
 use super::header::CaseHeader;
@@ -81,10 +81,11 @@ fn check_records(case: CaseReader) -> Result<(), Refusal>
     ask(&BidsInRange(case))
 }
 
-// The case in the bytes, or the first question that gets a no.
+// The case in the bytes, or the first question that gets a no. The bytes are exactly those that write the case.
 pub fn read_case<'a>(bytes: &'a [u8], bids: bool) -> Result<CaseReader<'a>, Refusal>
     ensures answer { λ r. ⌜ forget r ≡ case-answer bids (now (bytes .entry)) ⌝ }
     ensures holds { λ r. ⌜ made r (λ c. case-read c ≡ case-in (now (bytes .entry))) ⌝ }
+    ensures exact { λ r. ⌜ made r (λ c. written (case-read c) ≡ now (bytes .entry)) ⌝ }
 {
     let header = check_header(bytes, bids)?;
     let case = tables(bytes, header);

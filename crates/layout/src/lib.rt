@@ -12,6 +12,7 @@ mod written;
 pub use case::load;
 pub use case::read_case;
 pub use exact::case_layout;
+pub use exact::proposal_layout;
 pub use exact::questions_in_order;
 pub use proposal::Counts;
 pub use proposal::Proposal;

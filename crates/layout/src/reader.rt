@@ -75,7 +75,7 @@ impl<'a> CaseReader<'a> {
     }
 
     // The number that a bid's bytes give as its direction; 0 past the last.
-    pub fn direction(&self, bid: usize) -> BidDirection
+    pub(super) fn direction(&self, bid: usize) -> BidDirection
         ensures { λ r. ⌜ r ≡ getD (directions-read (now (self .entry))) bid no-direction ⌝ }
     {
         record_at::<BidDirection>(self.bids, bid).unwrap_or(BidDirection { number: 0 })

@@ -5,3 +5,4 @@ pub mod Prices
 pub mod First
 pub mod Refusals
 pub mod Held
+pub mod Changes

@@ -1,5 +1,6 @@
 // The words of the trade: areas, borders, bids, the book of a case, the amounts of a selection, and why a call is refused.
 mod book;
+mod changes;
 mod question;
 mod refusal;
 mod settled;

@@ -9,10 +9,10 @@ use Prim.Native.Nat.{ℕ, zero, suc}
 use lib.IntN.{ℤ, pos, negsuc, negℤ}
 use lib.ListN.{getD}
 use Rattle.scale.specs.Meaning.{Meaning, Laws}
-use Rattle.market.specs.declared.book.Direction.{Direction}
-use Rattle.market.specs.declared.book.Direction.the-variants.{Up, Down}
-use Rattle.market.specs.declared.book.Border.{Border}
-use Rattle.market.specs.declared.book.Bid.{Bid}
+use Rattle.market.specs.declared.trade.Direction.{Direction}
+use Rattle.market.specs.declared.trade.Direction.the-variants.{Up, Down}
+use Rattle.market.specs.declared.trade.Border.{Border}
+use Rattle.market.specs.declared.trade.Bid.{Bid}
 use Rattle.market.specs.Cases.{Case}
 use Rattle.market.specs.Selections.{Selection}
 use Rattle.optimality.proofs.Groups.{Group}

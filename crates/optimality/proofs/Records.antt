@@ -7,9 +7,9 @@ use lib.IntN.{ℤ, pos}
 use lib.ListN.{length, getD}
 use Rattle.std.proofs.shelf.Lists.{length-map, getD-map}
 use Rattle.scale.specs.Meaning.{Meaning}
-use Rattle.market.specs.declared.book.Direction.the-variants.{Up}
-use Rattle.market.specs.declared.book.Border.{Border}
-use Rattle.market.specs.declared.book.Bid.{Bid}
+use Rattle.market.specs.declared.trade.Direction.the-variants.{Up}
+use Rattle.market.specs.declared.trade.Border.{Border}
+use Rattle.market.specs.declared.trade.Bid.{Bid}
 use Rattle.market.specs.Cases.{Case, areas}
 use Rattle.market.specs.Selections.{Selection}
 use Rattle.optimality.proofs.Families.{Each}

@@ -17,10 +17,10 @@ use Rattle.std.specs.Numbers.{maxZ, minZ}
 use Rattle.std.specs.shelf.Lists.{All}
 use Rattle.std.proofs.shelf.Elements.{all-append, all-map, all-weaker}
 use Rattle.scale.specs.Meaning.{Meaning, Laws}
-use Rattle.market.specs.declared.book.Direction.{Direction}
-use Rattle.market.specs.declared.book.Direction.the-variants.{Up, Down}
-use Rattle.market.specs.declared.book.Border.{Border}
-use Rattle.market.specs.declared.book.Bid.{Bid}
+use Rattle.market.specs.declared.trade.Direction.{Direction}
+use Rattle.market.specs.declared.trade.Direction.the-variants.{Up, Down}
+use Rattle.market.specs.declared.trade.Border.{Border}
+use Rattle.market.specs.declared.trade.Bid.{Bid}
 use Rattle.market.specs.Cases.{Case, areas, ends-known, bid-known, Valid}
 use Rattle.market.specs.Selections.{satisfied-allowed, flow-allowed, activated-allowed}
 use Rattle.market.specs.Totals.{bid-cost}

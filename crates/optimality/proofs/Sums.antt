@@ -14,10 +14,10 @@ use borrow.Author.Differences.{ints}
 use Rattle.std.proofs.shelf.Tests.{eq-eqb, ne-eqb}
 use Rattle.std.proofs.shelf.Lists.{length-map, getD-append-left}
 use Rattle.scale.specs.Meaning.{Meaning, Laws}
-use Rattle.market.specs.declared.book.Direction.{Direction}
-use Rattle.market.specs.declared.book.Direction.the-variants.{Up, Down}
-use Rattle.market.specs.declared.book.Border.{Border}
-use Rattle.market.specs.declared.book.Bid.{Bid}
+use Rattle.market.specs.declared.trade.Direction.{Direction}
+use Rattle.market.specs.declared.trade.Direction.the-variants.{Up, Down}
+use Rattle.market.specs.declared.trade.Border.{Border}
+use Rattle.market.specs.declared.trade.Bid.{Bid}
 use Rattle.market.specs.Cases.{Case, areas}
 use Rattle.market.specs.Selections.{Selection, injected, brought, flows-into, activated-in, net}
 use Rattle.market.specs.Totals.{bid-cost, satisfied-total, activated-total, total}

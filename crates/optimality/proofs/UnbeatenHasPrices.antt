@@ -24,10 +24,10 @@ use Rattle.std.proofs.shelf.Lists.{length-map}
 use Rattle.std.proofs.shelf.Counted.{length-map-counting, getD-map-counting}
 use Rattle.std.proofs.shelf.Elements.{all-append, all-map, all-weaker, all-getD}
 use Rattle.scale.specs.Meaning.{Meaning, Laws, BidPrice, UnitCost, of-satisfied, of-up, of-down, SignedCost, cost, gain, sum}
-use Rattle.market.specs.declared.book.Direction.{Direction}
-use Rattle.market.specs.declared.book.Direction.the-variants.{Up, Down}
-use Rattle.market.specs.declared.book.Border.{Border}
-use Rattle.market.specs.declared.book.Bid.{Bid}
+use Rattle.market.specs.declared.trade.Direction.{Direction}
+use Rattle.market.specs.declared.trade.Direction.the-variants.{Up, Down}
+use Rattle.market.specs.declared.trade.Border.{Border}
+use Rattle.market.specs.declared.trade.Bid.{Bid}
 use Rattle.market.specs.Cases.{Case, areas, Valid, ends-known, bid-known, bid-in-range}
 use Rattle.market.specs.Selections.{Selection, WithinLimits}
 use Rattle.market.specs.Totals.{bid-cost, Beats}

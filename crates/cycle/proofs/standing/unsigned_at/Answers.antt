@@ -1,0 +1,7 @@
+use mathlib.Core.Path.{sym, ap}
+use lib.IntN.{pos}
+use Rattle.std.proofs.shelf.Lists.{getD-past}
+use Rattle.cycle.proofs.standing.unsigned_at.Needs as need
+
+pub returns-else-place-amounts : need.returns-else-place-amounts
+returns-else-place-amounts c = ap pos (sym (getD-past (c .args .amounts .now) (c .args .place) 0 (c .if-place-amounts .left)))
