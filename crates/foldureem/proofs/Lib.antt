@@ -1,0 +1,2 @@
+mod Released
+mod Pairs
