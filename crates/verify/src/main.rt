@@ -1,13 +1,5 @@
 // verify: reads a case and a proposal, judges the proposal, and writes the listing of what then stands, or why it is refused.
-use cycle::Cycle;
-use market::Refusal;
-use scale::Activation;
-use scale::MoneyScale;
-use scale::Netting;
-use scale::PairScale;
-use scale::SatisfactionScale;
-use scale::Scale;
-use scale::VolumeScale;
+use foldureem::verdict;
 use std::alloc::AllocError;
 use std::alloc::Global;
 use std::env;
@@ -39,13 +31,6 @@ enum Task {
     Help,
     Version,
     Verify(String, String),
-}
-
-// What a cycle says of a case and a proposal.
-#[derive(Drop)]
-enum Verdict {
-    Taken(Vec<u8>),
-    Refused(Refusal),
 }
 
 fn main(rt: LibcRuntime) -> Result<(), AnyError> {
@@ -92,16 +77,13 @@ fn say(rt: &LibcRuntime, text: &str) -> Result<(), AnyError> {
 fn verify(rt: &LibcRuntime, case: &str, proposal: &str) -> Result<(), AnyError> {
     let case = read(rt, case)?;
     let proposal = read(rt, proposal)?;
-    let verdict = match judge(rt.alloc(), case.as_slice(), proposal.as_slice()) {
-        Ok(verdict) => verdict,
-        Err(trouble) => {
-            let _ = eprintln!(rt, "verify: {trouble}");
-            return Err(trouble.into());
+    let mut listing = rt.report(room(rt.alloc()))?;
+    match rt.report(verdict(rt.alloc(), case.as_slice(), proposal.as_slice(), listing.as_mut_slice()))? {
+        Ok(length) => {
+            listing.truncate(length);
+            rt.report(release(rt, listing.as_slice()))
         }
-    };
-    match verdict {
-        Verdict::Taken(listing) => rt.report(release(rt, listing.as_slice())),
-        Verdict::Refused(refusal) => {
+        Err(refusal) => {
             let number = refusal.number();
             let layer = refusal.layer();
             let place = refusal.place();
@@ -109,6 +91,11 @@ fn verify(rt: &LibcRuntime, case: &str, proposal: &str) -> Result<(), AnyError> 
             Err("refused".into())
         }
     }
+}
+
+// Room for any listing.
+fn room(heap: Global) -> Result<Vec<u8>, AllocError> {
+    vec![in heap; 0u8; LISTING]
 }
 
 // A whole file; where it can't be read, a message that names it.
@@ -126,66 +113,4 @@ fn release(rt: &LibcRuntime, listing: &[u8]) -> Result<(), AnyError> {
     let mut out = rt.stdout();
     out.write_all(listing)?;
     Ok(())
-}
-
-// The netting scale where word 7 of the proposal is there and is 1, else the activation scale.
-fn judge(heap: Global, case: &[u8], proposal: &[u8]) -> Result<Verdict, AllocError> {
-    match proposal {
-        [
-            _,
-            _,
-            _,
-            _,
-            _,
-            _,
-            _,
-            _,
-            _,
-            _,
-            _,
-            _,
-            _,
-            _,
-            _,
-            _,
-            _,
-            _,
-            _,
-            _,
-            _,
-            _,
-            _,
-            _,
-            _,
-            _,
-            _,
-            _,
-            1,
-            0,
-            0,
-            0,
-            ..
-        ] => { judge_on::<Netting>(heap, case, proposal) }
-        _ => judge_on::<Activation>(heap, case, proposal),
-    }
-}
-
-// Makes a cycle, loads, submits, closes and releases.
-fn judge_on<S: Scale>(heap: Global, case: &[u8], proposal: &[u8]) -> Result<Verdict, AllocError> {
-    let mut cycle = Cycle::<S>::new(heap)?;
-    let mut listing = vec![in heap; 0u8; LISTING]?;
-    if let Err(refusal) = cycle.load(case) {
-        return Ok(Verdict::Refused(refusal));
-    }
-    if let Err(refusal) = cycle.submit(proposal) {
-        return Ok(Verdict::Refused(refusal));
-    }
-    let mut closed = cycle.close();
-    match closed.release(listing.as_mut_slice()) {
-        Ok(length) => {
-            listing.truncate(length);
-            Ok(Verdict::Taken(listing))
-        }
-        Err(refusal) => Ok(Verdict::Refused(refusal)),
-    }
 }
