@@ -1,7 +1,8 @@
 #!/usr/bin/env python3
-"""The verdict on a case and a proposal, by the rules in docs/ and as plainly as possible.
+"""The verdict on a case and a proposal, and the answers to calls on a cycle, by the rules in docs/ and as plainly as possible.
 
     verify(case, proposal) -> ("taken", listing) or ("refused", number, layer, place)
+    replay(scale, calls)   -> what each call on a fresh cycle answers
 
 It shares nothing with the verifier: it was written from the rules, works on Python's unbounded integers, and takes
 each question by itself, in order. Where the two differ, one of them is wrong.
@@ -237,6 +238,68 @@ def verify(case_data, proposal_data):
     except Refused as refusal:
         return "refused", refusal.number, layer(refusal.number), refusal.place
     return "taken", listing(case, selection)
+
+
+class Cycle:
+    """An open cycle: its scale, its case, and the standing selection or None. A call that raises has changed nothing."""
+
+    def __init__(self, scale):
+        self.scale = scale
+        self.case = [], [], []
+        self.standing = None
+
+    def named(self, table, k):
+        """Question 18, of one of the case's three tables."""
+        if k >= len(self.case[table]):
+            raise Refused(18, k)
+
+    def load(self, data):
+        self.case = load(self.scale, data)
+        self.standing = None
+
+    def revise(self, area, demand):
+        self.named(0, area)
+        if not -20_000_000 <= demand <= 20_000_000:
+            raise Refused(5, area)
+        self.case[0][area] = demand
+        self.standing = None
+
+    def limit(self, border, forward, backward):
+        self.named(1, border)
+        if not (forward <= 20_000_000 and backward <= 20_000_000):
+            raise Refused(7, border)
+        start, end, _, _ = self.case[1][border]
+        self.case[1][border] = start, end, forward, backward
+        self.standing = None
+
+    def withdraw(self, bid):
+        self.named(2, bid)
+        area, direction, _, price = self.case[2][bid]
+        self.case[2][bid] = area, direction, 0, price
+        self.standing = None
+
+    def submit(self, data):
+        self.standing = submit(self.scale, self.case, data)
+
+    def read(self, item, k):
+        table = ("area", "border", "bid").index(item)
+        self.named(table, k)
+        if self.standing is None:
+            raise Refused(19, 0)
+        return self.standing[table][k]
+
+
+def replay(scale, calls):
+    """What each call answers, as text. A call is the name of one of a cycle's methods, then what it is given."""
+    cycle = Cycle(scale)
+    answers = []
+    for name, *given in calls:
+        try:
+            amount = getattr(cycle, name)(*given)
+            answers.append("taken" if amount is None else "amount %d" % amount)
+        except Refused as refusal:
+            answers.append("refused %d %d %d" % (refusal.number, layer(refusal.number), refusal.place))
+    return answers
 
 
 def text(verdict):

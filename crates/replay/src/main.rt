@@ -161,17 +161,17 @@ fn plan_of(rt: &LibcRuntime, path: &str, text: &str) -> Result<Plan, AnyError> {
                 plan.scale = scale;
                 first = false;
             }
-            Some(line) => {
+            Some(said) => {
                 first = false;
-                if let Err(trouble) = take(rt, &mut plan.calls, line) {
-                    let _ = eprintln!(rt, "replay: {path}, line {number}: {trouble}");
+                if let Err(trouble) = take(rt, &mut plan.calls, said) {
+                    let _ = eprintln!(rt, "replay: {path}, line {number}: {line}: {trouble}");
                     return Err(trouble);
                 }
             }
             None => {
                 let _ = eprintln!(
                     rt,
-                    "replay: {path}, line {number}: this is no call; see --help"
+                    "replay: {path}, line {number}: {line}: this is no call; see --help"
                 );
                 return Err("no call".into());
             }
