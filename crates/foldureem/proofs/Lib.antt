@@ -1,2 +1,3 @@
+mod Best
 mod Released
 mod Pairs

@@ -6,6 +6,7 @@
 --   listed            the listing of the case in the bytes and the selection in the bytes
 --   answer-for        judge, then the length of the listing where it fits the buffer
 --   buffer-after      the buffer afterwards: the listing and what lay behind it, or the buffer as it was
+--   Nothing-beats     no selection within the limits of the case in the bytes is better than the one in the proposal
 --   if-made           what a call made, or what it leaves where it had no memory
 use mathlib.Core.Bool.{Bool, cond, _&&_}
 use mathlib.Core.List.{List}
@@ -17,6 +18,7 @@ use Rattle.std.specs.declared.result.Result.the-variants.{Ok, Err}
 use Rattle.scale.specs.Meaning.{Meaning}
 use Rattle.scale.specs.Pair.{netting, activation}
 use Rattle.market.specs.First.{and-then}
+use Rattle.market.specs.Totals.{Unbeaten}
 use Rattle.market.specs.declared.refusal.Refusal.{Refusal}
 use Rattle.layout.specs.CaseBytes.{case-in}
 use Rattle.listing.specs.Lines.{listing}
@@ -34,6 +36,9 @@ judged-answer m case proposal = and-then (load-answer m case) (submit-answer m (
 
 abbrev pub listed : (case proposal : List ℕ) → List ℕ
 listed case proposal = listing (case-in case) (proposed (case-in case) proposal)
+
+abbrev pub Nothing-beats : (m : Meaning) → (case proposal : List ℕ) → Type 0
+Nothing-beats m case proposal = Unbeaten m (case-in case) (proposed (case-in case) proposal)
 
 abbrev pub if-taken : {X : Type 0} → Result (Unit {0}) Refusal → Result X Refusal → Result X Refusal
 if-taken (Ok u) then = then

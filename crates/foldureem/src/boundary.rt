@@ -1,5 +1,6 @@
 // The two functions that C calls. Nothing checks a C declaration against them: foldureem.h is written by hand.
 ghost use mathlib.Core.Path.{_≡_};
+ghost use Rattle.foldureem.specs.Verdicts.{scale-for, Nothing-beats};
 ghost use Rattle.foldureem.specs.Told.{told-if, Answered, Tallied};
 use crate::judging::verdict as judged;
 use crate::many::count;
@@ -44,6 +45,7 @@ pub extern "C" fn foldureem_verify(
     verdict: &mut FoldureemVerdict,
 )
     ensures answered { λ _. ⌜ Answered (now (case .entry)) (now (proposal .entry)) (now (out .entry)) (now (verdict .exit)) (now (out .exit)) ⌝ }
+    ensures unbeaten { λ _. ⌜ (now (verdict .exit) .number ≡ 0 → Nothing-beats (scale-for (now (proposal .entry))) (now (case .entry)) (now (proposal .entry))) ⌝ }
 {
     *verdict = numbers(judged(heap, case, proposal, out));
 }

@@ -4,7 +4,7 @@ ghost use Rattle.std.specs.Vec.{made};
 ghost use Rattle.layout.specs.CaseBytes.{case-in};
 ghost use Rattle.cycle.specs.Calls.{submitted};
 ghost use Rattle.cycle.specs.View.{view};
-ghost use Rattle.foldureem.specs.Verdicts.{nets, scale-for, judged-answer, answer-for, buffer-after, if-made};
+ghost use Rattle.foldureem.specs.Verdicts.{nets, scale-for, judged-answer, answer-for, buffer-after, if-made, Nothing-beats};
 use cycle::Cycle;
 use market::Refusal;
 use scale::Activation;
@@ -35,6 +35,7 @@ pub fn verdict_on<S: Scale>(
 ) -> Result<Result<usize, Refusal>, AllocError>
     ensures answer { λ r. ⌜ made r (λ v. v ≡ answer-for (S·Scale .meaning) (now (case .entry)) (now (proposal .entry)) (now (out .entry))) ⌝ }
     ensures out { λ r. ⌜ now (out .exit) ≡ if-made r (buffer-after (S·Scale .meaning) (now (case .entry)) (now (proposal .entry)) (now (out .entry))) (now (out .entry)) ⌝ }
+    ensures unbeaten { λ r. ⌜ made r (λ v. made v (λ _. Nothing-beats (S·Scale .meaning) (now (case .entry)) (now (proposal .entry)))) ⌝ }
 {
     let mut cycle = Cycle::<S>::new(heap)?;
     if let Err(refusal) = judge_on(&mut cycle, case, proposal) {
@@ -64,6 +65,7 @@ pub fn verdict(
 ) -> Result<Result<usize, Refusal>, AllocError>
     ensures answer { λ r. ⌜ made r (λ v. v ≡ answer-for (scale-for (now (proposal .entry))) (now (case .entry)) (now (proposal .entry)) (now (out .entry))) ⌝ }
     ensures out { λ r. ⌜ now (out .exit) ≡ if-made r (buffer-after (scale-for (now (proposal .entry))) (now (case .entry)) (now (proposal .entry)) (now (out .entry))) (now (out .entry)) ⌝ }
+    ensures unbeaten { λ r. ⌜ made r (λ v. made v (λ _. Nothing-beats (scale-for (now (proposal .entry))) (now (case .entry)) (now (proposal .entry)))) ⌝ }
 {
     if nets_only(proposal) {
         verdict_on::<Netting>(heap, case, proposal, out)

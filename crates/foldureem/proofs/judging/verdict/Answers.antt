@@ -4,7 +4,7 @@ use mathlib.Core.List.{List}
 use Prim.Native.Nat.{ℕ}
 use Rattle.std.specs.Vec.{made}
 use Rattle.scale.specs.Meaning.{Meaning}
-use Rattle.foldureem.specs.Verdicts.{answer-for, buffer-after, if-made}
+use Rattle.foldureem.specs.Verdicts.{answer-for, buffer-after, if-made, Nothing-beats}
 use Rattle.foldureem.proofs.Released.{on-scale}
 use Rattle.foldureem.proofs.judging.verdict.Needs as need
 
@@ -15,6 +15,8 @@ returns-then-nets-only c =
           (c .args .proposal .now) true (c .if-nets-only .ensures tt) (c .verdict-on .ensures .answer);
       out = on-scale (λ (m : Meaning). c .verdict-on .last .out ≡ if-made (c .verdict-on .result) (buffer-after m (c .args .case .now) (c .args .proposal .now) (c .args .out .now)) (c .args .out .now))
           (c .args .proposal .now) true (c .if-nets-only .ensures tt) (c .verdict-on .ensures .out);
+      unbeaten = on-scale (λ (m : Meaning). made (c .verdict-on .result) (λ v. made v (λ _. Nothing-beats m (c .args .case .now) (c .args .proposal .now))))
+          (c .args .proposal .now) true (c .if-nets-only .ensures tt) (c .verdict-on .ensures .unbeaten);
     }
 
 pub returns-else-nets-only : need.returns-else-nets-only
@@ -24,4 +26,6 @@ returns-else-nets-only c =
           (c .args .proposal .now) false (c .if-nets-only .ensures tt) (c .verdict-on-else-nets-only .ensures .answer);
       out = on-scale (λ (m : Meaning). c .verdict-on-else-nets-only .last .out ≡ if-made (c .verdict-on-else-nets-only .result) (buffer-after m (c .args .case .now) (c .args .proposal .now) (c .args .out .now)) (c .args .out .now))
           (c .args .proposal .now) false (c .if-nets-only .ensures tt) (c .verdict-on-else-nets-only .ensures .out);
+      unbeaten = on-scale (λ (m : Meaning). made (c .verdict-on-else-nets-only .result) (λ v. made v (λ _. Nothing-beats m (c .args .case .now) (c .args .proposal .now))))
+          (c .args .proposal .now) false (c .if-nets-only .ensures tt) (c .verdict-on-else-nets-only .ensures .unbeaten);
     }
