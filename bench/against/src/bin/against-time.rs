@@ -49,10 +49,10 @@ impl Pairs {
     }
 }
 
-/// µs for one case, the median over the rounds.
-fn median(mut rounds: Vec<Duration>) -> f64 {
+/// µs for one case: the median over the rounds, and the least.
+fn middle_and_least(mut rounds: Vec<Duration>) -> [f64; 2] {
     rounds.sort_unstable();
-    rounds[rounds.len() / 2].as_secs_f64() * 1e6 / CASES as f64
+    [rounds[rounds.len() / 2], rounds[0]].map(|round| round.as_secs_f64() * 1e6 / CASES as f64)
 }
 
 fn timed(work: impl FnOnce() -> usize) -> Duration {
@@ -70,11 +70,8 @@ fn mallocs(ends: &[usize], files: &[u8]) -> usize {
 }
 
 fn main() {
-    println!("{CASES} cases at each size, {ROUNDS} rounds, medians; µs for a case");
-    println!();
-    println!("load and submit");
-    println!("| areas | borders | bids | library | plain | ratio |");
-    println!("|---:|---:|---:|---:|---:|---:|");
+    println!("{CASES} cases at each size, {ROUNDS} rounds; µs for a case, the median round and the least");
+    heading("load and submit");
     let mut checker = Checker::<Activation>::new();
     for (part, whole) in [(1, 8), (1, 4), (1, 2), (1, 1)] {
         let size = Size::FULL.fraction(part, whole);
@@ -87,13 +84,10 @@ fn main() {
                 pairs.iter().filter(|&(case, proposal)| takes(case, proposal)).count()
             }));
         }
-        row(size, median(library), median(plain));
+        row(size, middle_and_least(library), middle_and_least(plain));
     }
 
-    println!();
-    println!("one whole call: make a cycle, load, submit, and write the listing");
-    println!("| areas | borders | bids | library | plain | ratio |");
-    println!("|---:|---:|---:|---:|---:|---:|");
+    heading("one whole call: make a cycle, load, submit, and write the listing");
     let pairs = Pairs::of(Size::FULL);
     let mut out = vec![0; 65536];
     let (mut library, mut plain) = (Vec::new(), Vec::new());
@@ -101,7 +95,7 @@ fn main() {
         library.push(timed(|| pairs.iter().filter(|(case, proposal)| foldureem::verify_into(case, proposal, black_box(&mut out)).is_ok()).count()));
         plain.push(timed(|| pairs.iter().filter(|(case, proposal)| black_box(plain::verify(case, proposal)).is_ok()).count()));
     }
-    row(Size::FULL, median(library), median(plain));
+    row(Size::FULL, middle_and_least(library), middle_and_least(plain));
 
     println!();
     let counts = [0, 1, CASES].map(|count| (count, mallocs(&pairs.ends[..2 * count], &pairs.files)));
@@ -111,6 +105,15 @@ fn main() {
     assert!(counts.iter().all(|(_, calls)| *calls == counts[0].1), "loading and submitting allocate nothing");
 }
 
-fn row(size: Size, library: f64, plain: f64) {
-    println!("| {} | {} | {} | {library:.2} | {plain:.2} | {:.2} |", size.areas, size.borders, size.bids, library / plain);
+fn heading(what: &str) {
+    println!();
+    println!("{what}");
+    println!();
+    println!("| areas | borders | bids | library | plain | ratio | library, least | plain, least | ratio |");
+    println!("|---:|---:|---:|---:|---:|---:|---:|---:|---:|");
+}
+
+fn row(size: Size, library: [f64; 2], plain: [f64; 2]) {
+    let figures = [0, 1].map(|i| format!("{:.2} | {:.2} | {:.2}", library[i], plain[i], library[i] / plain[i]));
+    println!("| {} | {} | {} | {} | {} |", size.areas, size.borders, size.bids, figures[0], figures[1]);
 }
