@@ -1,4 +1,7 @@
 // replay: reads a list of calls, makes them on a fresh cycle, and writes what each of them answers.
+ghost use mathlib.Core.Path.{_≡_};
+ghost use Rattle.cycle.specs.Sent.{sent};
+ghost use Rattle.replay.specs.Plans.{intended};
 use cycle::Answer;
 use cycle::Call;
 use cycle::Item;
@@ -269,7 +272,10 @@ fn calls_of<'a>(heap: Global, planned: &'a [Planned]) -> Result<Vec<Call<'a>>, A
     Ok(calls)
 }
 
-fn lent(planned: &Planned) -> Call<'_> {
+// The same call, with its bytes lent.
+fn lent(planned: &Planned) -> Call<'_>
+    ensures { λ r. ⌜ sent r ≡ intended (now (planned .entry)) ⌝ }
+{
     match planned {
         Planned::Load(bytes) => Call::Load(bytes.as_slice()),
         Planned::Submit(bytes) => Call::Submit(bytes.as_slice()),
