@@ -126,7 +126,7 @@ no-bids satisfied-0 satisfied-1 flow price-0 price-1 expected = record {
 
 abbrev pub rows : List Row
 rows =
-    -- satisfied in area 0, flow, up, down, money in the price of area 1
+    -- columns: satisfied in area 0, flow, up, down, money in the price of area 1, answer
     -- taken: all is satisfied, the border is full, and each bid sets the price of its area
     two-areas 80 (minus 50) 30 70 5000 (taken 200 100 (pos 50) (minus 260000))
     -- a cent less in area 1: more of the down bid would pay
@@ -139,14 +139,14 @@ rows =
     ∷ (two-areas 80 (minus 50) 31 70 5000 (refused 13 3 0)
     -- a kilowatt more than area 0 demands
     ∷ (two-areas 81 (minus 50) 30 70 5000 (refused 10 3 0)
-    -- the three levels of the price
+    -- columns: the three levels of the price, answer
     -- taken: one more satisfied kilowatt would be worth exactly its price
     ∷ (one-area 1 0 0 (taken 0 0 (pos 0) (pos 0))
     -- no volume and no money makes up for satisfaction
     ∷ (one-area 0 8 79999200 (refused 15 4 0)
     -- a level past its range
     ∷ (one-area 9 0 0 (refused 14 4 0)
-    -- satisfied in each area by size, flow, the two prices
+    -- columns: satisfied in each area by size, flow, the two prices, answer
     -- taken: the border carries all it can, and both areas keep some demand
     ∷ (no-bids 50 50 (minus 50) (pos 1) (minus 1) (taken 100 0 (pos 50) (pos 0)) ∷ [])))))))))
 
