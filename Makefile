@@ -3,8 +3,8 @@
 
 # Proves and builds `verify`, and prints the listing of the shipped example.
 demo:
-	rt check verify > target.log 2>&1 || { cat target.log; rm -f target.log; exit 1; }
-	rm -f target.log
+	@mkdir -p target
+	rt check verify > target/demo.log 2>&1 || { cat target/demo.log; exit 1; }
 	target/bin/verify examples/two-areas/case examples/two-areas/proposal
 
 # The gate.
