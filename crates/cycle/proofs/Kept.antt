@@ -4,7 +4,7 @@ use mathlib.Core.Bool.{Bool, true, false, cond}
 use mathlib.Core.List.{List, [], _∷_}
 use Prim.Native.Nat.{ℕ, _≤_, _<_}
 use native.Mathlib.Omega.{arith}
-use lib.Dec.{T, ltb→lt}
+use lib.Dec.{T, ltb→lt, leb, eqb}
 use lib.IntN.{ℤ}
 use lib.ListN.{length, getD}
 use Rattle.std.specs.shelf.Lists.{All}
@@ -13,27 +13,32 @@ use Rattle.std.specs.declared.option.Option.the-variants.{Some, None}
 use Rattle.std.specs.declared.result.Result.{Result}
 use Rattle.std.specs.declared.result.Result.the-variants.{Ok, Err}
 use Rattle.std.proofs.shelf.Elements.{all-from-getD}
+use Rattle.std.proofs.shelf.Tests.{and-parts, leb-true}
 use Rattle.scale.specs.Meaning.{Meaning, Laws}
 use Rattle.market.specs.declared.refusal.Refusal.{Refusal}
-use Rattle.market.specs.declared.refusal.Refusal.the-variants.{Unknown, Demand, Limits}
+use Rattle.market.specs.declared.refusal.Refusal.the-variants.{Header, Kind, Count, Offset, Unknown, Demand, Limits}
 use Rattle.market.specs.Cases.{Case, Valid, case-of, areas, demand-in-range, limits-in-range, border-at}
 use Rattle.market.specs.Changes.{revise-answer, revised, limit-answer, limited, withdraw-answer, withdrawn, with-limits}
-use Rattle.market.specs.First.{and-then, ask-one}
+use Rattle.market.specs.First.{and-then, ask, ask-one}
 use Rattle.market.specs.Selections.{Selection, WithinLimits}
 use Rattle.market.specs.Totals.{Unbeaten}
 use Rattle.market.proofs.Changed.{valid-revised, valid-limited, valid-withdrawn}
 use Rattle.market.proofs.Empty.{valid-none}
-use Rattle.market.proofs.Firsts.{both-from-and-then}
+use Rattle.market.proofs.Firsts.{both-from-and-then, all-from-ask}
 use Rattle.optimality.proofs.UnbeatenHasPrices.{unbeaten-has-prices}
+use Rattle.layout.specs.Bytes.{word}
 use Rattle.layout.specs.CaseBytes.{case-in, case-answer}
+use Rattle.layout.specs.Headers.{proposal-header-of}
+use Rattle.layout.specs.ProposalBytes.{counts-of, starts, count-right, section-right, proposal-answer}
 use Rattle.layout.proofs.Cases.{taken-valid}
+use Rattle.fitting.specs.Judged.{judged}
 use Rattle.fitting.proofs.Passed.{so}
 use Rattle.cycle.specs.declared.calls.Answer.{Answer}
 use Rattle.cycle.specs.declared.calls.Answer.the-variants.{Taken, Amount, Refused}
 use Rattle.cycle.specs.States.{State}
 use Rattle.cycle.specs.Sent.{Sent, load, revise, limit, withdraw, submit, read, taken, told, told-amount}
-use Rattle.cycle.specs.Calls.{answer-to, submit-answer, proposed}
-use Rattle.cycle.specs.Histories.{Step, History, in-force, last-taken, standing, standing-by, unless-read, made-of, by-the-rules, Lawful, LetTaken, Kept}
+use Rattle.cycle.specs.Calls.{answer-to, submit-answer, proposed, price-in}
+use Rattle.cycle.specs.Histories.{Step, History, in-force, last-taken, standing, standing-by, unless-read, made-of, by-the-rules, Lawful, LetTaken, Sound, Throughout, Kept, sent-with}
 use Rattle.cycle.proofs.SentWith.{read-sent, taken-sent}
 use Rattle.cycle.proofs.Submitted.{submit-unbeaten}
 
@@ -41,6 +46,20 @@ use Rattle.cycle.proofs.Submitted.{submit-unbeaten}
 yes-taken : (r : Result (Unit {0}) Refusal) → taken (told r) ≡ true → r ≡ Ok tt
 yes-taken (Ok tt) e = refl
 yes-taken (Err x) e = absurd (let z : _≡_ {A = ℕ} 0 1 = cc in omega arith)
+
+yes-told : (r : Result (Unit {0}) Refusal) → told r ≡ Taken → r ≡ Ok tt
+yes-told r e = yes-taken r (ap taken e)
+
+-- no proposal is taken on a scale of more than 16 levels
+few-levels-taken : (m : Meaning) (c : Case) (bs : List ℕ) → submit-answer m c bs ≡ Ok tt → m .levels ≤ 16
+few-levels-taken m c bs e =
+    let bytes = both-from-and-then (proposal-answer (counts-of c) (m .levels) bs) (judged m c (proposed c bs) (price-in m c bs)) e .0 in
+    let counted : Result (Unit {0}) Refusal = ask (count-right (counts-of c) (m .levels) (proposal-header-of bs)) 9 Count in
+    let ended : Result (Unit {0}) Refusal = ask (section-right (starts (counts-of c) (m .levels)) (proposal-header-of bs) (length bs)) 10 Offset in
+    let kind = both-from-and-then (ask-one (leb 36 (length bs)) (Header (length bs))) (and-then (ask-one (eqb (word 0 bs) 2) Kind) (and-then counted ended)) bytes .1 in
+    let counts = both-from-and-then counted ended (both-from-and-then (ask-one (eqb (word 0 bs) 2) Kind) (and-then counted ended) kind .1) .0 in
+    let seventh = all-from-ask (count-right (counts-of c) (m .levels) (proposal-header-of bs)) 9 Count counts 7 (omega arith) in
+    leb-true (m .levels) 16 (and-parts (leb (m .levels) 16) (eqb (word 7 bs) (m .levels)) seventh .0)
 
 asked : {E : Type 0} (b : Bool) (x : E) → ask-one b x ≡ Ok tt → T b
 asked true x e = tt
@@ -101,28 +120,34 @@ module _ (m : Meaning) (laws : Laws m) where
       (standing-best earlier lawful)
 
   -- prices that fit, as a proposal that submit takes
-  let-taken : m .levels ≤ 16 → (c : Case) → Valid c → (s : Selection) → Unbeaten m c s → LetTaken m c s
-  let-taken few c v s best =
-      let found = unbeaten-has-prices m laws c v s best in
+  let-taken : (h : History) → Lawful m h → m .levels ≤ 16 → (s : Selection) → Unbeaten m (in-force h) s → LetTaken m h s
+  let-taken h lawful few s best =
+      let v : Valid (in-force h) = valid-in-force m h lawful in
+      let found = unbeaten-has-prices m laws (in-force h) v s best in
       let prices = found .0 in
       let fits = found .1 in
-      let ranged : All (λ x. T (m .in-range x)) prices = all-from-getD (λ x. T (m .in-range x)) prices (m .zero) (λ a h. fits .in-range a (omega (arith, fits .prices-count))) in
+      let ranged : All (λ x. T (m .in-range x)) prices = all-from-getD (λ x. T (m .in-range x)) prices (m .zero) (λ a low. fits .in-range a (omega (arith, fits .prices-count))) in
       record {
         prices = prices;
         one-for-each = fits .prices-count;
         in-range = ranged;
-        taken = taken-sent m laws few c v s (best .within) prices (fits .prices-count) ranged fits;
+        taken = ap told (taken-sent m laws few (in-force h) v s (best .within) prices (fits .prices-count) ranged fits);
       }
 
-  taken-best : m .levels ≤ 16 → (c : Case) → Valid c → (s : Selection) → WithinLimits c s → LetTaken m c s → Unbeaten m c s
-  taken-best few c v s within let-it =
-      subst (λ (x : Selection). Unbeaten m c x) (read-sent m laws few c v s within (let-it .prices) (let-it .one-for-each) (let-it .in-range))
-      (submit-unbeaten m c _ laws v (let-it .taken))
+  taken-best : (h : History) → Lawful m h → (s : Selection) → WithinLimits (in-force h) s → LetTaken m h s → Unbeaten m (in-force h) s
+  taken-best h lawful s within let-it =
+      let v : Valid (in-force h) = valid-in-force m h lawful in
+      let taken-it : submit-answer m (in-force h) (sent-with m (in-force h) s (let-it .prices)) ≡ Ok tt = yes-told _ (let-it .taken) in
+      let few : m .levels ≤ 16 = few-levels-taken m (in-force h) (sent-with m (in-force h) s (let-it .prices)) taken-it in
+      subst (λ (x : Selection). Unbeaten m (in-force h) x) (read-sent m laws few (in-force h) v s within (let-it .prices) (let-it .one-for-each) (let-it .in-range))
+      (submit-unbeaten m (in-force h) (sent-with m (in-force h) s (let-it .prices)) laws v taken-it)
+
+  sound-from-lawful : (h : History) → Lawful m h → Sound m h
+  sound-from-lawful h lawful = record { unbeaten = standing-best h lawful; has-prices = let-taken h lawful; prices-suffice = taken-best h lawful }
+
+  throughout : (h : History) → Lawful m h → Throughout m h
+  throughout [] lawful = sound-from-lawful [] lawful
+  throughout (step ∷ earlier) lawful = (sound-from-lawful (step ∷ earlier) lawful, throughout earlier (lawful .1))
 
   pub kept-from-lawful : (h : History) → Lawful m h → Kept m h
-  kept-from-lawful h lawful = record {
-    lawful = lawful;
-    unbeaten = standing-best h lawful;
-    has-prices = λ few. let-taken few (in-force h) (valid-in-force m h lawful);
-    prices-suffice = λ few. taken-best few (in-force h) (valid-in-force m h lawful);
-  }
+  kept-from-lawful h lawful = record { lawful = lawful; sound = throughout h lawful }

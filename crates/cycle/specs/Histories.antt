@@ -8,6 +8,9 @@
 --   by-the-rules      what the rules answer to a call after a history
 --   Lawful            every answer in the history is the rules'
 --   sent-with         the bytes of a proposal of a selection with prices
+--   LetTaken          some prices in range, sent with a selection, let submit take it
+--   Sound             what stands is unbeaten, and just the unbeaten selections have prices that let submit take them
+--   Throughout        that after every call so far
 --   Kept              the promise
 use mathlib.Core.Path.{_≡_}
 use mathlib.Core.Bool.{Bool, true, false, cond}
@@ -18,7 +21,6 @@ use lib.ListN.{length}
 use Rattle.std.specs.shelf.Lists.{All}
 use Rattle.std.specs.declared.option.Option.{Option}
 use Rattle.std.specs.declared.option.Option.the-variants.{Some, None}
-use Rattle.std.specs.declared.result.Result.the-variants.{Ok}
 use Rattle.scale.specs.Meaning.{Meaning}
 use Rattle.market.specs.Cases.{Case, case-of, areas}
 use Rattle.market.specs.Changes.{revised, limited, withdrawn}
@@ -27,9 +29,10 @@ use Rattle.market.specs.Totals.{Unbeaten}
 use Rattle.layout.specs.CaseBytes.{case-in}
 use Rattle.layout.specs.ProposalBytes.{counts-of, proposal-bytes}
 use Rattle.cycle.specs.declared.calls.Answer.{Answer}
+use Rattle.cycle.specs.declared.calls.Answer.the-variants.{Taken}
 use Rattle.cycle.specs.States.{State}
 use Rattle.cycle.specs.Sent.{Sent, load, revise, limit, withdraw, submit, read, taken}
-use Rattle.cycle.specs.Calls.{answer-to, submit-answer, proposed}
+use Rattle.cycle.specs.Calls.{answer-to, proposed}
 
 pub record Step : Type 0 where
   pub call : Sent
@@ -94,19 +97,28 @@ Lawful m (step ∷ earlier) = (step .answer ≡ by-the-rules m earlier (step .ca
 abbrev pub sent-with : (m : Meaning) → Case → Selection → List (m .Value) → List ℕ
 sent-with m c s prices = proposal-bytes (counts-of c) (m .levels) s (map (m .written) prices)
 
--- some prices in range, one for each area, sent with the selection, let submit take it
-pub record LetTaken (m : Meaning) (c : Case) (s : Selection) : Type 0 where
+-- some prices in range, one for each area, sent with the selection as the next call, let submit take it
+pub record LetTaken (m : Meaning) (h : History) (s : Selection) : Type 0 where
   pub prices : List (m .Value)
-  pub one-for-each : length prices ≡ areas c
+  pub one-for-each : length prices ≡ areas (in-force h)
   pub in-range : All (λ v. T (m .in-range v)) prices
-  pub taken : submit-answer m c (sent-with m c s prices) ≡ Ok tt
+  pub taken : by-the-rules m h (submit (sent-with m (in-force h) s prices)) ≡ Taken
 
--- the promise, after any history
-pub record Kept (m : Meaning) (h : History) : Type 0 where
-  -- every call was taken or refused, and every read answered, as the rules say
-  pub lawful : Lawful m h
+-- what holds after a history
+pub record Sound (m : Meaning) (h : History) : Type 0 where
   -- what stands is within the limits in force, and nothing beats it
   pub unbeaten : (s : Selection) → standing h ≡ Some s → Unbeaten m (in-force h) s
-  -- a selection within the limits in force is unbeaten exactly when some prices, sent with it, let submit take it
-  pub has-prices : m .levels ≤ 16 → (s : Selection) → Unbeaten m (in-force h) s → LetTaken m (in-force h) s
-  pub prices-suffice : m .levels ≤ 16 → (s : Selection) → WithinLimits (in-force h) s → LetTaken m (in-force h) s → Unbeaten m (in-force h) s
+  -- a selection within the limits in force is unbeaten exactly when some prices, sent with it, let submit take it;
+  -- a pair of more than 16 levels is no scale, and reads no price
+  pub has-prices : m .levels ≤ 16 → (s : Selection) → Unbeaten m (in-force h) s → LetTaken m h s
+  pub prices-suffice : (s : Selection) → WithinLimits (in-force h) s → LetTaken m h s → Unbeaten m (in-force h) s
+
+-- after a history and after every earlier part of it
+abbrev pub Throughout : (m : Meaning) → History → Type 0
+Throughout m [] = Sound m []
+Throughout m (step ∷ earlier) = Sound m (step ∷ earlier) × Throughout m earlier
+
+-- the promise: every call was taken or refused, and every read answered, as the rules say; and all that holds throughout
+pub record Kept (m : Meaning) (h : History) : Type 0 where
+  pub lawful : Lawful m h
+  pub sound : Throughout m h

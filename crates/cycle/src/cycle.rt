@@ -160,7 +160,7 @@ impl<S: Scale> Cycle<S> {
         layout::write_case(&self.holdings.book, out)
     }
 
-    // The totals of what stands; none until a submit is taken.
+    // The totals of what stands; none where nothing stands.
     pub fn totals(&self) -> Option<Totals>
         ensures { λ r. ⌜ r ≡ standing-totals (view (now (self .entry))) ⌝ }
     {

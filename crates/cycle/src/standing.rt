@@ -50,7 +50,7 @@ impl Holdings {
         }
     }
 
-    // The totals of what stands; none until a submit is taken.
+    // The totals of what stands; none where nothing stands.
     pub fn totals(&self) -> Option<Totals>
         ensures { λ r. ⌜ r ≡ standing-totals (state-of (now (self .entry))) ⌝ }
     {

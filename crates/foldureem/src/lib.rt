@@ -6,11 +6,8 @@ mod told;
 
 pub use boundary::foldureem_count;
 pub use boundary::foldureem_verify;
-pub use judging::judge_on;
 pub use judging::nets_only;
 pub use judging::verdict;
 pub use judging::verdict_on;
 pub use many::count;
-pub use many::count_taken;
-pub use many::takes;
 pub use told::FoldureemVerdict;

@@ -16,7 +16,7 @@ use mir.Syntax.{w64}
 use mir.Val.{SFits}
 use Rattle.std.specs.shelf.Lists.{All}
 use Rattle.std.proofs.shelf.Lists.{take-at, drop-at, take-append-drop, length-take-le, length-drop}
-use Rattle.std.proofs.shelf.Elements.{all-append}
+use Rattle.std.proofs.shelf.Elements.{all-append, all-take, all-drop}
 use Rattle.scale.specs.Meaning.{Meaning, Laws, UnitCost, SignedCost, sum}
 use Rattle.scale.specs.Meaning.UnitCost.{of-satisfied, of-up, of-down}
 use Rattle.scale.specs.Meaning.SignedCost.{cost, gain}
@@ -147,13 +147,13 @@ module _ (a b : Meaning) (la : Laws a) (lb : Laws b) where
         let f = ap (b .value) (drop-at (a .written (v .0)) (b .written (v .1)) (a .levels) p) ∙ lb .value-written (few-second h) (v .1) (second-of (a .in-range (v .0)) _ r) in
         λ i. (e i, f i)
 
-    forth : (ns : List ℤ) → length ns ≡ pair a b .levels → pair a b .written (pair a b .value ns) ≡ ns
-    forth ns l =
+    forth : (ns : List ℤ) → length ns ≡ pair a b .levels → All (SFits w64) ns → T (pair a b .in-range (pair a b .value ns)) → pair a b .written (pair a b .value ns) ≡ ns
+    forth ns l fits r =
         let room : a .levels ≤ length ns = omega (arith, all-levels h) in
         let p : length (take (a .levels) ns) ≡ a .levels = length-take-le (a .levels) ns room in
         let q : length (drop (a .levels) ns) ≡ b .levels = omega (arith, all-levels h, length-drop (a .levels) ns) in
-        let e = la .written-value (few-first h) (take (a .levels) ns) p in
-        let f = lb .written-value (few-second h) (drop (a .levels) ns) q in
+        let e = la .written-value (few-first h) (take (a .levels) ns) p (all-take (SFits w64) (a .levels) ns fits) (first-of _ _ r) in
+        let f = lb .written-value (few-second h) (drop (a .levels) ns) q (all-drop (SFits w64) (a .levels) ns fits) (second-of (a .in-range (a .value (take (a .levels) ns))) _ r) in
         (λ i. e i ++ f i) ∙ take-append-drop (a .levels) ns
 
   pub pair-laws : Laws (pair a b)

@@ -107,5 +107,5 @@ module _ (satisfied : ℤ) (up down : ℤ → ℤ) (most n : ℕ) (bids : Bool) 
     written-count = λ _ _ _. refl;
     written-fits = λ _ v h. fits-level small v h;
     value-written = λ _ _ _. refl;
-    written-value = λ _ ns h. one-number ns h;
+    written-value = λ _ ns h _ _. one-number ns h;
   }

@@ -86,12 +86,12 @@ pub record Laws (m : Meaning) : Type 0 where
   pub written-count : m .levels ≤ 16 → (v : m .Value) → T (m .in-range v) → length (m .written v) ≡ m .levels
   pub written-fits : m .levels ≤ 16 → (v : m .Value) → T (m .in-range v) → All (SFits w64) (m .written v)
   pub value-written : m .levels ≤ 16 → (v : m .Value) → T (m .in-range v) → m .value (m .written v) ≡ v
-  pub written-value : m .levels ≤ 16 → (ns : List ℤ) → length ns ≡ m .levels → m .written (m .value ns) ≡ ns
+  pub written-value : m .levels ≤ 16 → (ns : List ℤ) → length ns ≡ m .levels → All (SFits w64) ns → T (m .in-range (m .value ns)) → m .written (m .value ns) ≡ ns
 
 -- how x stands to y
 abbrev pub order : (m : Meaning) → m .Value → m .Value → Ordering
 order m x y = cond (m .less x y) Less (cond (m .less y x) Greater Equal)
 
--- the price that the numbers write: there is one exactly where they are as many as the levels, and in range
+-- the price that the numbers write: there is one exactly where the levels are at most 16, the numbers as many, and in range
 abbrev pub read-price : (m : Meaning) → List ℤ → Option (m .Value)
 read-price m ns = cond (leb (m .levels) 16 && (eqb (length ns) (m .levels) && m .in-range (m .value ns))) (Some (m .value ns)) None
