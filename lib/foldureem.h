@@ -1,4 +1,4 @@
-/* foldureem: judges a proposal for a case of the balancing market. Link with -lfoldureem; nothing else is needed but the C library.
+/* foldureem: judges a proposal for a case of the balancing market. Link with libfoldureem.a; nothing else is needed but the C library.
  *
  * Written by hand: keep it in step with crates/foldureem/src/boundary.rt and told.rt, which nothing compares with it.
  *

@@ -1,5 +1,5 @@
 /* Judges two files, as `verify CASE PROPOSAL` does: the listing, or one line that says which question got a no.
- *     cc example.c $(pkg-config --cflags --libs target/foldureem.pc) */
+ *     cc example.c $(PKG_CONFIG_PATH=target pkg-config --cflags --libs foldureem) */
 #include "foldureem.h"
 #include <stdio.h>
 #include <stdlib.h>
