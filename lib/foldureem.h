@@ -29,7 +29,7 @@ typedef struct {
     uint64_t length; /* how many bytes of the listing were written to `out` */
 } foldureem_verdict;
 
-/* Loads the case, submits the proposal, and writes the listing to `out` where the proposal is taken, that is, where no
+/* Loads the case, submits the proposal, and writes the listing to `out` where the proposal is taken; then no
  * selection within the limits is better. The scale is that of netting where word 7 of the proposal is 1, else that of activation.
  * Where `out` is too short for the listing, the verdict is 20 5 and the bytes needed. Where the number is not 0, `out` keeps its bytes. */
 void foldureem_verify(const uint8_t *case_bytes, size_t case_length, const uint8_t *proposal_bytes, size_t proposal_length,

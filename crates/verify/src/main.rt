@@ -10,7 +10,7 @@ use std::io::Write;
 const HELP: &str = "usage: verify [CASE PROPOSAL]
 
 Reads the files `case` and `proposal` in this folder, or the two files named,
-and says whether nothing beats the selection that is proposed.
+and takes the proposal only if its prices show that nothing beats its selection.
 
 Taken:   writes the listing and ends with status 0.
 Refused: writes `refused NUMBER LAYER PLACE` and ends with status 1.
