@@ -78,7 +78,12 @@ fn verify(rt: &LibcRuntime, case: &str, proposal: &str) -> Result<(), AnyError> 
     let case = read(rt, case)?;
     let proposal = read(rt, proposal)?;
     let mut listing = rt.report(room(rt.alloc()))?;
-    match rt.report(verdict(rt.alloc(), case.as_slice(), proposal.as_slice(), listing.as_mut_slice()))? {
+    match rt.report(verdict(
+        rt.alloc(),
+        case.as_slice(),
+        proposal.as_slice(),
+        listing.as_mut_slice(),
+    ))? {
         Ok(length) => {
             listing.truncate(length);
             rt.report(release(rt, listing.as_slice()))
