@@ -3,8 +3,7 @@
 
 # Proves and builds `verify`, and prints the listing of the shipped example.
 demo:
-	@mkdir -p target
-	rt check verify > target/demo.log 2>&1 || { cat target/demo.log; exit 1; }
+	tools/programs verify
 	target/bin/verify examples/two-areas/case examples/two-areas/proposal
 
 # The gate.

@@ -1,6 +1,6 @@
 /* foldureem: judges a proposal for a case of the balancing market. Link with libfoldureem.a; nothing else is needed but the C library.
  *
- * Written by hand: keep it in step with crates/foldureem/src/boundary.rt and told.rt, which nothing compares with it.
+ * Written by hand: keep it in step with crates/foldureem_c/src/lib.rt and crates/foldureem/src/told.rt, which nothing compares with it.
  *
  * Both calls are stateless and may run in several threads at once. A buffer of length 0 may be NULL, no other pointer may.
  * `out` and `verdict` overlap no other buffer. Not to be called from a signal handler, nor in the child after a fork of a

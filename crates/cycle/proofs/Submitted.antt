@@ -1,5 +1,5 @@
 -- What a submit does that passes: its selection is within the limits, and it is the one in the bytes. Assumes nothing.
-use Rattle.std.proofs.Common.{◌≡◌, ℕ, ◌+◌, ◌*◌, ◌/◌, ◌<◌, ◌≤◌, Bool, true, false, cond, ◌&&◌, leb, List, length, drop, ℤ, Ok, Err, Option, Result, sym, refl, ap, ◌∙◌, subst, arith}
+use Rattle.std.proofs.Common.{◌≡◌, ℕ, ◌/◌, ◌≤◌, true, List, length, drop, Ok, Result, sym, ap, ◌∙◌, subst, arith}
 use Rattle.std.proofs.lemmas.Bool.{and_from, le-leb}
 use Rattle.scale.specs.Meaning.{Meaning, Laws}
 use Rattle.scale.specs.Levels.{little_endian, read_bytes}
@@ -9,12 +9,11 @@ use Rattle.market.proofs.Firsts.{both_from_and_then}
 use Rattle.market.specs.Selections.{Selection, WithinLimits}
 use Rattle.market.specs.First.{and_then}
 use Rattle.market.specs.declared.refusal.Refusal.{Refusal}
-use Rattle.market.specs.declared.book.Amounts.{Amounts}
 use Rattle.layout.specs.declared.proposal.Counts.{Counts}
 use Rattle.layout.specs.declared.proposal.Proposal.{Proposal}
-use Rattle.records.specs.Bytes.{part, signed_word}
-use Rattle.layout.specs.ProposalBytes.{counts_of, flows_offset, activated_offset, prices_offset, proposal_end, proposal_answer, price_part, selection_of, signed_amounts, unsigned_amounts, satisfied_part, flows_part, activated_part, prices_part}
-use Rattle.layout.specs.Sections.{Holds, selection_held, satisfied_bytes, flows_bytes, activated_bytes, prices_bytes, levels_of, few}
+use Rattle.records.specs.Bytes.{signed_word}
+use Rattle.layout.specs.ProposalBytes.{counts_of, flows_offset, activated_offset, proposal_end, proposal_answer, price_part, selection_of, satisfied_part, flows_part, prices_part}
+use Rattle.layout.specs.Sections.{Holds, selection_held, satisfied_bytes, flows_bytes, activated_bytes, levels_of, few}
 use Rattle.layout.proofs.Proposals.{taken_length}
 use Rattle.records.proofs.Tables.{records_part, length_table}
 use Rattle.fitting.specs.Judged.{judged, OneForEach}

@@ -13,7 +13,7 @@
 --                     write puts the bytes of the case into a buffer
 --   release_answer, released
 --                     release puts the listing of what stands into a buffer
-use Rattle.std.specs.Prelude.{ℕ, Bool, true, false, cond, List, ◌++◌, length, drop, is_ok, Some, None, Ok, Err, Option, Result, nat_le}
+use Rattle.std.specs.Prelude.{ℕ, cond, List, ◌++◌, length, drop, Some, None, Ok, Err, Option, Result, nat_le}
 use Rattle.scale.specs.Meaning.{Meaning}
 use Rattle.scale.specs.Levels.{read_bytes}
 use Rattle.market.specs.Cases.{Case}

@@ -4,7 +4,7 @@
 --   state_of       the case in the book, and what stands
 --   view           the state of a cycle
 --   closed_view    the state of a closed cycle
-use Rattle.std.specs.Prelude.{Bool, true, false, cond, Some, None, Option}
+use Rattle.std.specs.Prelude.{Bool, cond, Some, None, Option}
 use Rattle.market.specs.Held.{held, selected}
 use Rattle.market.specs.Selections.{Selection}
 use Rattle.market.specs.declared.book.Amounts.{Amounts}

@@ -1,4 +1,6 @@
 // The cycle: it loads a case, takes a proposal whose selection nothing beats, and closes to release the listing.
+#![tactic(auto)]
+
 mod calls;
 mod closed;
 mod cycle;

@@ -1,5 +1,7 @@
 // figures: tries worked figures through the library, and writes what was tried and what was answered.
 // The file `stdout` has what the rules say of each: taken, with the totals where a proposal stands, or number, layer and place.
+#![tactic(auto)]
+
 use cycle::{Answer, Call, Closed, Cycle, Item};
 use listing::Totals;
 use market::Refusal;

@@ -1,5 +1,5 @@
 -- A selection that passes the fitting test is unbeaten. Assumes nothing.
-use Rattle.std.proofs.Common.{◌≡◌, ℕ, ◌*◌, ◌≤◌, Bool, true, false, cond, ◌&&◌, T, eqb, leb, List, length, Some, None, Ok, Option, sym, refl, ap, ◌∙◌, subst, arith}
+use Rattle.std.proofs.Common.{◌≡◌, ℕ, ◌*◌, Bool, true, false, cond, ◌&&◌, T, eqb, leb, List, length, Some, None, Ok, Option, refl, subst, arith}
 use Rattle.scale.specs.Meaning.{Meaning, Laws}
 use Rattle.scale.specs.Levels.{numbers, read_bytes}
 use Rattle.market.specs.Cases.{Case, Valid, areas}

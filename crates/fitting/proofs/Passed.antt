@@ -1,7 +1,6 @@
 -- What a yes of the fitting test means: the selection is within the limits and the prices fit it; and the other way round. Assumes nothing.
-use Rattle.std.proofs.Common.{◌≡◌, ℕ, ◌+◌, ◌<◌, Bool, true, false, ◌&&◌, T, List, map, length, get_or, ℤ, pos, ◌≤ℤ◌, is_some, Some, None, Ok, Err, Option, Result, unwrap_or, sym, refl, ap, ◌∙◌, subst, arith, ltb→lt}
+use Rattle.std.proofs.Common.{◌≡◌, ℕ, ◌<◌, Bool, true, false, ◌&&◌, T, List, length, get_or, ℤ, ◌≤ℤ◌, is_some, Some, None, Ok, Option, unwrap_or, sym, refl, ap, ◌∙◌, subst, arith, ltb→lt}
 use lib.Signed.{le_z}
-use Rattle.std.specs.List.{range_with_len}
 use Rattle.std.proofs.lemmas.List.FromFn.{length-map-range_with_len, get_or-map-range_with_len}
 use Rattle.std.proofs.ByRecursion.{All-get_or}
 use Rattle.std.proofs.lemmas.List.{get_or_default}
@@ -10,12 +9,9 @@ use Rattle.std.proofs.lemmas.Bool.{and_parts}
 use Rattle.scale.specs.Meaning.{Meaning}
 use Rattle.market.specs.declared.trade.Border.{Border}
 use Rattle.market.specs.declared.trade.Bid.{Bid}
-use Rattle.market.specs.declared.refusal.Refusal.{Refusal}
-use Rattle.market.specs.declared.refusal.Refusal.TheVariants.{Satisfied, Flow, Activated, Balance, Price, DemandFit, BorderFit, BidFit}
 use Rattle.market.specs.Cases.{Case, Valid, areas, demand_at, border_at, bid_at, no_border, no_bid, ends_known, bid_known}
-use Rattle.market.specs.Selections.{Selection, WithinLimits, satisfied_allowed, flow_allowed, activated_allowed, net}
+use Rattle.market.specs.Selections.{Selection, WithinLimits, satisfied_allowed, flow_allowed, activated_allowed}
 use Rattle.market.specs.Prices.{Fits, demand_fits, border_fits, bid_fits}
-use Rattle.market.specs.First.{and_then, ask}
 use Rattle.market.proofs.Firsts.{all_from_ask, ask_all, both_from_and_then, and_then_both}
 use Rattle.fitting.specs.Judged.{OneForEach, satisfied_at, flow_at, activated_at, balances, demand_priced, border_priced, bid_priced, prices_of, judged}
 

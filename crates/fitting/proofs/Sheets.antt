@@ -1,5 +1,5 @@
 -- One bid, or one border, more in the sums of what enters each area. Assumes nothing.
-use Rattle.std.proofs.Common.{◌≡◌, ℕ, zero, suc, ◌+◌, ◌*◌, ◌<◌, ◌≤◌, Bool, true, false, cond, T, eqb, ◌≢◌, List, [], ◌∷◌, length, get_or, take, set, replicate, ℤ, pos, negsuc, ◌+ℤ◌, ◌-ℤ◌, neg_ℤ, ◌≤ℤ◌, sym, refl, ap, ◌∙◌, subst, arith, ltb→lt, length-set, get_or-set_other, get_or-set_same, w32, w64, SFits, to_z, of_z}
+use Rattle.std.proofs.Common.{◌≡◌, ℕ, ◌+◌, ◌*◌, ◌<◌, ◌≤◌, Bool, true, false, cond, T, eqb, List, length, get_or, take, set, replicate, ℤ, pos, negsuc, ◌+ℤ◌, ◌-ℤ◌, neg_ℤ, ◌≤ℤ◌, sym, refl, ap, ◌∙◌, subst, arith, ltb→lt, length-set, get_or-set_other, get_or-set_same, w32, w64, SFits, to_z, of_z}
 use mathlib.Core.Logic.{∥∥₁_elim}
 use native.Mathlib.Bridge.{le_prop}
 use native.Mathlib.Decide.{ℕ_discrete}
@@ -14,7 +14,7 @@ use Rattle.market.specs.declared.trade.Direction.TheVariants.{Up, Down}
 use Rattle.market.specs.declared.trade.Border.{Border}
 use Rattle.market.specs.declared.trade.Bid.{Bid}
 use Rattle.market.specs.Cases.{Valid, case_of, no_bid, no_border, bid_known, ends_known}
-use Rattle.market.specs.Selections.{injected, brought, activated_in, flows_into}
+use Rattle.market.specs.Selections.{injected, activated_in, flows_into}
 use Rattle.fitting.proofs.Balances.{activated_more, flows_more, added_by_bid, added_by_border}
 use Rattle.fitting.proofs.Passed.{so, yes_so}
 

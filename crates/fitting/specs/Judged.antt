@@ -9,7 +9,7 @@
 --                    the fitting rules where a price may be missing: a price out of range fits nothing
 --   prices_judged    the questions on prices, in their order
 --   judged           all questions in their order
-use Rattle.std.specs.Prelude.{◌≡◌, ℕ, Bool, true, false, ◌&&◌, List, map, length, ℤ, pos, is_some, Some, None, Option, Result, int_le, slice_index, slice_index_or}
+use Rattle.std.specs.Prelude.{◌≡◌, ℕ, Bool, false, ◌&&◌, List, map, length, ℤ, pos, is_some, Some, None, Option, Result, int_le, slice_index, slice_index_or}
 use Rattle.std.specs.List.{range_with_len}
 use Rattle.std.specs.Option.{unwrap_or}
 use Rattle.scale.specs.Meaning.{Meaning}

@@ -1,4 +1,6 @@
 // The fitting test: are the amounts allowed, do the areas balance, do the prices fit?
+#![tactic(auto)]
+
 mod amounts;
 mod balance;
 mod fit;

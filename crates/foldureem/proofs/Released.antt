@@ -1,5 +1,5 @@
 -- How a verdict follows from what the cycle says. Assumes nothing.
-use Rattle.std.proofs.Common.{◌≡◌, ℕ, Bool, true, false, cond, List, Ok, Result, sym, ap, ◌∙◌, subst}
+use Rattle.std.proofs.Common.{◌≡◌, ℕ, Bool, cond, List, Ok, Result, ap, ◌∙◌, subst}
 use Rattle.scale.specs.Meaning.{Meaning}
 use Rattle.scale.specs.Pair.{netting, activation}
 use Rattle.market.specs.declared.refusal.Refusal.{Refusal}

@@ -7,7 +7,6 @@
 --   taken_among       how many of the pairs of a case and a proposal that lie one behind the other are taken
 --   Tallied           what C is told of many pairs: how many are taken, or the largest number where there was no memory
 use Rattle.std.specs.Prelude.{◌≡◌, ℕ, ◌+◌, ◌-◌, Bool, cond, ◌&&◌, ◌⊎◌, List, [], ◌∷◌, length, take, drop, is_ok, Ok, Err, Result, nat_le}
-use Rattle.scale.specs.Meaning.{Meaning}
 use Rattle.market.specs.declared.refusal.Refusal.{Refusal}
 use Rattle.market.specs.Refusals.{number, layer, place}
 use Rattle.foldureem.specs.declared.told.FoldureemVerdict.{FoldureemVerdict}

@@ -1,4 +1,4 @@
-// The two functions that C calls. Nothing checks a C declaration against them: foldureem.h is written by hand.
+// What the two functions that C calls do; the crate `foldureem_c` exports them.
 ghost use Rattle.std.specs.Prelude.{◌≡◌};
 ghost use Rattle.foldureem.specs.Verdicts.{scale_for, NothingBeats};
 ghost use Rattle.foldureem.specs.Told.{told_if, Answered, Tallied};
@@ -36,8 +36,7 @@ fn numbers(answer: Result<Result<usize, Refusal>, AllocError>) -> FoldureemVerdi
 }
 
 // Judges the proposal on the scale that it is for, and puts the listing into `out` where it is taken.
-#[unsafe(no_mangle)]
-pub extern "C" fn foldureem_verify(
+pub fn foldureem_verify(
     heap: Global,
     case: &[u8],
     proposal: &[u8],
@@ -51,8 +50,7 @@ pub extern "C" fn foldureem_verify(
 }
 
 // How many of many pairs of a case and a proposal are taken, on cycles that are made once; the largest number where there was no memory.
-#[unsafe(no_mangle)]
-pub extern "C" fn foldureem_count(heap: Global, files: &[u8], ends: &[usize]) -> usize
+pub fn foldureem_count(heap: Global, files: &[u8], ends: &[usize]) -> usize
     ensures tallied { Tallied files.now ends.now result }
 {
     match count(heap, files, ends) {

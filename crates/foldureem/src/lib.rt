@@ -1,4 +1,6 @@
 // The verifier as a call over lent buffers, for programs in C and what calls C.
+#![tactic(auto)]
+
 mod boundary;
 mod judging;
 mod many;

@@ -1,6 +1,6 @@
 // Many pairs of files on one cycle for each scale: nothing is allocated from one pair to the next.
 ghost use Rattle.std.specs.Prelude.{◌≡◌, IfOk};
-ghost use Rattle.foldureem.specs.Told.{cut as the-part, is_taken, taken_among};
+ghost use Rattle.foldureem.specs.Told.{cut as the_part, is_taken, taken_among};
 
 use crate::judging::{judge_on, nets_only};
 use cycle::Cycle;
@@ -9,7 +9,7 @@ use std::alloc::{AllocError, Global};
 
 // The bytes from a start to an end; none where these are no part.
 fn cut(files: &[u8], start: usize, end: usize) -> &[u8]
-    ensures { result.now ≡ the-part files.now start end }
+    ensures { result.now ≡ the_part files.now start end }
 {
     if start <= end && end <= files.len() {
         &files[start..end]

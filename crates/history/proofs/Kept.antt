@@ -1,13 +1,13 @@
 -- Histories whose answers are the rules' keep the promise. Assumes nothing.
-use Rattle.std.proofs.Common.{◌≡◌, ℕ, ◌<◌, ◌≤◌, Bool, true, false, cond, T, eqb, leb, List, [], ◌∷◌, length, get_or, ℤ, Some, None, Ok, Err, Option, Result, sym, refl, ap, ◌∙◌, subst, arith, ltb→lt}
-use Rattle.std.specs.List.{AllByRecursion as All}
+use Rattle.std.proofs.Common.{◌≡◌, ℕ, ◌≤◌, Bool, true, false, cond, T, eqb, leb, List, [], ◌∷◌, length, Some, None, Ok, Err, Option, Result, sym, refl, ap, ◌∙◌, subst, arith, ltb→lt}
+use Rattle.std.specs.List.{AllByRecursion}
 use Rattle.std.proofs.ByRecursion.{All-from_get_or}
 use Rattle.std.proofs.lemmas.Bool.{and_parts, leb-true}
 use Rattle.scale.specs.Meaning.{Meaning, Laws}
 use Rattle.market.specs.declared.refusal.Refusal.{Refusal}
 use Rattle.market.specs.declared.refusal.Refusal.TheVariants.{Header, Kind, Count, Offset, Unknown, Demand, Limits}
-use Rattle.market.specs.Cases.{Case, Valid, case_of, areas, demand_in_range, limits_in_range, border_at}
-use Rattle.market.specs.Changes.{revise_answer, revised, limit_answer, limited, withdraw_answer, withdrawn, with_limits}
+use Rattle.market.specs.Cases.{Case, Valid, demand_in_range, limits_in_range, border_at}
+use Rattle.market.specs.Changes.{revise_answer, limit_answer, withdraw_answer, with_limits}
 use Rattle.market.specs.First.{and_then, ask, ask_one}
 use Rattle.market.specs.Selections.{Selection, WithinLimits}
 use Rattle.market.specs.Totals.{Unbeaten}
@@ -16,18 +16,16 @@ use Rattle.market.proofs.Empty.{valid_none}
 use Rattle.market.proofs.Firsts.{both_from_and_then, all_from_ask}
 use Rattle.optimality.proofs.UnbeatenHasPrices.{unbeaten_has_prices}
 use Rattle.records.specs.Bytes.{word}
-use Rattle.layout.specs.CaseBytes.{case_in, case_answer}
+use Rattle.layout.specs.CaseBytes.{case_answer}
 use Rattle.records.specs.Headers.{proposal_header_of}
 use Rattle.layout.specs.ProposalBytes.{counts_of, starts, count_right, section_right, proposal_answer}
 use Rattle.layout.proofs.Cases.{taken_valid}
 use Rattle.fitting.specs.Judged.{judged}
-use Rattle.fitting.proofs.Passed.{so}
-use Rattle.cycle.specs.declared.calls.Answer.{Answer}
-use Rattle.cycle.specs.declared.calls.Answer.TheVariants.{Taken, Amount, Refused}
+use Rattle.cycle.specs.declared.calls.Answer.TheVariants.{Taken}
 use Rattle.cycle.specs.States.{State}
-use Rattle.cycle.specs.Sent.{Sent, load, revise, limit, withdraw, submit, read, taken, told, told_amount}
+use Rattle.cycle.specs.Sent.{Sent, load, revise, limit, withdraw, submit, read, taken, told}
 use Rattle.cycle.specs.Calls.{answer_to, submit_answer, proposed, price_in}
-use Rattle.history.specs.Histories.{Step, History, in_force, last_taken, standing, standing_by, unless_read, made_of, by_the_rules, Lawful, LetTaken, Sound, Throughout, Kept, sent_with}
+use Rattle.history.specs.Histories.{History, in_force, last_taken, standing, standing_by, unless_read, made_of, Lawful, LetTaken, Sound, Throughout, Kept, sent_with}
 use Rattle.history.proofs.SentWith.{read_sent, taken_sent}
 use Rattle.cycle.proofs.Submitted.{submit_unbeaten}
 
@@ -115,7 +113,7 @@ module _ (m : Meaning) (laws : Laws m) where
       let found = unbeaten_has_prices m laws (in_force h) v s best in
       let prices = found.0 in
       let fits = found.1 in
-      let ranged : All (λ x. T (m.in_range x)) prices = All-from_get_or (λ x. T (m.in_range x)) prices m.zero (λ a low. fits.in_range a (omega (arith, fits.prices_count))) in
+      let ranged : AllByRecursion (λ x. T (m.in_range x)) prices = All-from_get_or (λ x. T (m.in_range x)) prices m.zero (λ a low. fits.in_range a (omega (arith, fits.prices_count))) in
       record {
         prices = prices;
         one_for_each = fits.prices_count;

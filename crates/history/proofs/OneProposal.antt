@@ -2,7 +2,7 @@
 use Rattle.std.proofs.Common.{◌≡◌, ℕ, zero, suc, ◌*◌, ◌^◌, ◌<◌, ◌≤◌, Bool, true, false, cond, ◌&&◌, eqb, leb, List, [], map, length, get_or, take, drop, Some, None, sym, refl, ap, ◌∙◌, arith, length-take, w64, SFits, eqb-true}
 use native.Mathlib.Nat.{pow-le-pow_right}
 use mir.ValLaws.{to_z-Fits}
-use Rattle.std.specs.List.{AllByRecursion as All}
+use Rattle.std.specs.List.{AllByRecursion}
 use Rattle.std.proofs.ByRecursion.{All-take, All-drop}
 use Rattle.std.proofs.lemmas.List.{length-map, get_or-map, ext_get_or}
 use Rattle.std.proofs.lemmas.Bool.{and_parts}
@@ -17,7 +17,7 @@ use Rattle.layout.proofs.ExactlyProposals.{proposal_layout}
 use Rattle.layout.proofs.RoundTrips.{number_below, all_part}
 use Rattle.records.proofs.Tables.{length_table, getD_table}
 use Rattle.history.specs.Histories.{sent_with}
-use Rattle.history.specs.Proposals.{Proposes, One-proposal}
+use Rattle.history.specs.Proposals.{Proposes, OneProposal}
 use Rattle.history.proofs.SentWith.{proposes}
 
 -- the numbers in bytes have 64 bits
@@ -28,7 +28,7 @@ below_64 bs h =
     let most : 256 ^ length (take 8 bs) ≤ 256 ^ 8 = pow-le-pow_right (omega arith) few in
     omega (arith, low, most)
 
-numbers_fit : (n : ℕ) (bs : List ℕ) → Bytewise bs → All (SFits w64) (numbers n bs)
+numbers_fit : (n : ℕ) (bs : List ℕ) → Bytewise bs → AllByRecursion (SFits w64) (numbers n bs)
 numbers_fit zero bs h = tt
 numbers_fit (suc n) bs h = (to_z-Fits w64 (little_endian (take 8 bs)) (record { fits = below_64 bs h }), numbers_fit n (drop 8 bs) (All-drop (λ b. b < 256) 8 bs h))
 
@@ -63,7 +63,7 @@ module _ (m : Meaning) (laws : Laws m) (few : m.levels ≤ 16) (c : Case) (s : S
   no_other : bs ≡ sent_with m c s prices
   no_other = proposal_layout.only_one (counts_of c) m.levels s (map m.written prices) bs bytes held.taken held.selection prices_same
 
-pub one_proposal : (m : Meaning) → Laws m → One-proposal m
+pub one_proposal : (m : Meaning) → Laws m → OneProposal m
 one_proposal m laws = record {
   there_is_one = λ few c valid s within prices count ranged. proposes m laws few c valid s within prices count ranged;
   no_other = λ few c s prices count bs bytes held. no_other m laws few c s prices count bs bytes held;

@@ -1,5 +1,5 @@
 -- A submit asks its questions one after the other. Assumes nothing.
-use Rattle.std.proofs.Common.{◌≡◌, ℕ, List, [], ◌∷◌, ◌++◌, length, is_some, Ok, Err, Option, Result, sym, refl, ap, ◌∙◌}
+use Rattle.std.proofs.Common.{◌≡◌, ℕ, List, [], ◌∷◌, ◌++◌, length, is_some, Ok, Option, Result, sym, refl, ap, ◌∙◌}
 use Rattle.scale.specs.Meaning.{Meaning}
 use Rattle.market.specs.declared.refusal.Refusal.{Refusal}
 use Rattle.market.specs.declared.refusal.Refusal.TheVariants.{Satisfied, Flow, Activated, Balance, Price, DemandFit, BorderFit, BidFit}
@@ -11,7 +11,7 @@ use Rattle.layout.specs.ProposalBytes.{counts_of}
 use Rattle.layout.proofs.Orders.{and_then_assoc, and_then_last, questions_in_order}
 use Rattle.fitting.specs.Judged.{satisfied_at, flow_at, activated_at, balances, demand_priced, border_priced, bid_priced, judged}
 use Rattle.cycle.specs.Calls.{submit_answer, proposed, price_in}
-use Rattle.history.specs.Questions.{selection_questions, submit_questions, Submit-in-order}
+use Rattle.history.specs.Questions.{selection_questions, submit_questions, SubmitInOrder}
 
 abbrev Answer : Type 0
 Answer = Result (Unit {0}) Refusal
@@ -41,7 +41,7 @@ submit_asked m c bs =
     ∙ (ap (and_then (asked (proposal_questions (counts_of c) m.levels bs))) (judged_asked m c (proposed c bs) (price_in m c bs))
     ∙ asked_more (proposal_questions (counts_of c) m.levels bs) (selection_questions m c (proposed c bs) (price_in m c bs)))
 
-pub submit_in_order : (m : Meaning) → Submit-in-order m
+pub submit_in_order : (m : Meaning) → SubmitInOrder m
 submit_in_order m = record {
   taken = λ c bs.
       let e = submit_asked m c bs in

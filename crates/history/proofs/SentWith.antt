@@ -1,8 +1,8 @@
 -- A selection within the limits, sent with prices in range, is read back as it was sent. Assumes nothing.
-use Rattle.std.proofs.Common.{◌≡◌, ℕ, suc, ◌+◌, ◌*◌, ◌^◌, ◌<◌, ◌≤◌, Bool, true, false, cond, ◌&&◌, T, eqb, leb, List, [], ◌∷◌, map, length, get_or, take, drop, ℤ, pos, negsuc, neg_ℤ, ◌≤ℤ◌, Some, None, Ok, Option, sym, refl, ap, ◌∙◌, subst, mul-le-mul_left, mul-suc, arith, length-drop, length-take, w32, w64, SFits}
-use lib.Signed.{le_z, mag}
+use Rattle.std.proofs.Common.{◌≡◌, ℕ, suc, ◌+◌, ◌*◌, ◌^◌, ◌<◌, ◌≤◌, true, cond, ◌&&◌, T, eqb, leb, List, [], ◌∷◌, map, length, get_or, take, drop, ℤ, pos, negsuc, neg_ℤ, ◌≤ℤ◌, Some, None, Ok, ap, ◌∙◌, mul-le-mul_left, mul-suc, arith, length-drop, length-take, w32, w64, SFits}
+use lib.Signed.{le_z}
 use Rattle.std.specs.Int.{int_min, int_max}
-use Rattle.std.specs.List.{AllByRecursion as All}
+use Rattle.std.specs.List.{AllByRecursion}
 use Rattle.std.proofs.ByRecursion.{All-get_or, All-from_get_or}
 use Rattle.std.proofs.lemmas.List.{length-map, get_or-map}
 use Rattle.std.proofs.lemmas.Int.{ints, clamps}
@@ -15,7 +15,7 @@ use Rattle.market.specs.Cases.{Case, Valid, areas, demand_at, border_at, bid_at,
 use Rattle.market.specs.Selections.{Selection, WithinLimits, satisfied_allowed, flow_allowed, activated_allowed}
 use Rattle.market.specs.Prices.{Fits}
 use Rattle.market.proofs.Firsts.{and_then_both}
-use Rattle.layout.specs.ProposalBytes.{counts_of, proposal_bytes, prices_part, price_part, proposal_end, prices_offset}
+use Rattle.layout.specs.ProposalBytes.{counts_of, prices_part, price_part, proposal_end, prices_offset}
 use Rattle.layout.specs.Exact.{Writable}
 use Rattle.layout.proofs.ExactlyProposals.{proposal_layout}
 use Rattle.layout.proofs.Proposals.{taken_length}
@@ -59,7 +59,7 @@ activated_fits b x range ok =
     let volume : b.volume ≤ 9999000 = leb-true b.volume 9999000 (and_parts (leb b.volume 9999000) _ (yes_so _ range)).0 in
     omega arith
 
-written_all : (m : Meaning) → Laws m → m.levels ≤ 16 → (prices : List m.Value) → All (λ v. T (m.in_range v)) prices → All (λ p. (length p ≡ m.levels) × All (SFits w64) p) (map m.written prices)
+written_all : (m : Meaning) → Laws m → m.levels ≤ 16 → (prices : List m.Value) → AllByRecursion (λ v. T (m.in_range v)) prices → AllByRecursion (λ p. (length p ≡ m.levels) × AllByRecursion (SFits w64) p) (map m.written prices)
 written_all m laws few [] ok = tt
 written_all m laws few (v ∷ vs) ok = ((laws.written_count few v ok.0, laws.written_fits few v ok.0), written_all m laws few vs ok.1)
 
@@ -83,7 +83,7 @@ slot_within width a n h =
     let l : width * suc a ≤ width * n = mul-le-mul_left width h in
     omega (arith, e, l)
 
-module _ (m : Meaning) (laws : Laws m) (few : m.levels ≤ 16) (c : Case) (valid : Valid c) (s : Selection) (within : WithinLimits c s) (prices : List m.Value) (count : length prices ≡ areas c) (ranged : All (λ v. T (m.in_range v)) prices) where
+module _ (m : Meaning) (laws : Laws m) (few : m.levels ≤ 16) (c : Case) (valid : Valid c) (s : Selection) (within : WithinLimits c s) (prices : List m.Value) (count : length prices ≡ areas c) (ranged : AllByRecursion (λ v. T (m.in_range v)) prices) where
   writable : Writable (counts_of c) m.levels s (map m.written prices)
   writable = record {
     few_areas = valid.few_areas;

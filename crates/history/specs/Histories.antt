@@ -13,7 +13,7 @@
 --   Throughout        that after every call so far
 --   Kept              the promise
 use Rattle.std.specs.Prelude.{◌≡◌, ℕ, ◌≤◌, cond, T, List, [], ◌∷◌, map, length, Some, None, Option}
-use Rattle.std.specs.List.{AllByRecursion as All}
+use Rattle.std.specs.List.{AllByRecursion}
 use Rattle.scale.specs.Meaning.{Meaning}
 use Rattle.market.specs.Cases.{Case, case_of, areas}
 use Rattle.market.specs.Changes.{revised, limited, withdrawn}
@@ -93,7 +93,7 @@ sent_with m c s prices = proposal_bytes (counts_of c) m.levels s (map m.written 
 pub record LetTaken (m : Meaning) (h : History) (s : Selection) : Type 0 where
   pub prices : List m.Value
   pub one_for_each : length prices ≡ areas (in_force h)
-  pub in_range : All (λ v. T (m.in_range v)) prices
+  pub in_range : AllByRecursion (λ v. T (m.in_range v)) prices
   pub taken : by_the_rules m h (submit (sent_with m (in_force h) s prices)) ≡ Taken
 
 -- what holds after a history

@@ -1,9 +1,9 @@
 -- The proposal of a selection and its prices.
 --
 --   Proposes        bytes are a proposal of a selection with prices, for a case and on a scale
---   One-proposal    a selection within the limits and prices in range make exactly one proposal
+--   OneProposal    a selection within the limits and prices in range make exactly one proposal
 use Rattle.std.specs.Prelude.{◌≡◌, ℕ, ◌<◌, ◌≤◌, T, List, length, Some, Ok, slice_index_or}
-use Rattle.std.specs.List.{AllByRecursion as All}
+use Rattle.std.specs.List.{AllByRecursion}
 use Rattle.scale.specs.Meaning.{Meaning}
 use Rattle.market.specs.Cases.{Case, Valid, areas}
 use Rattle.market.specs.Selections.{Selection, WithinLimits}
@@ -19,8 +19,8 @@ pub record Proposes (m : Meaning) (c : Case) (s : Selection) (prices : List m.Va
   pub each_price : (area : ℕ) → area < areas c → price_in m c bs area ≡ Some (slice_index_or prices area m.zero)
 
 -- on every scale of at most 16 levels, for every valid case
-pub record One-proposal (m : Meaning) : Type 0 where
-  pub there_is_one : m.levels ≤ 16 → (c : Case) → Valid c → (s : Selection) → WithinLimits c s → (prices : List m.Value) → length prices ≡ areas c → All (λ v. T (m.in_range v)) prices
+pub record OneProposal (m : Meaning) : Type 0 where
+  pub there_is_one : m.levels ≤ 16 → (c : Case) → Valid c → (s : Selection) → WithinLimits c s → (prices : List m.Value) → length prices ≡ areas c → AllByRecursion (λ v. T (m.in_range v)) prices
       → Proposes m c s prices (sent_with m c s prices)
   pub no_other : m.levels ≤ 16 → (c : Case) → (s : Selection) → (prices : List m.Value) → length prices ≡ areas c
       → (bs : List ℕ) → Bytewise bs → Proposes m c s prices bs → bs ≡ sent_with m c s prices

@@ -2,7 +2,7 @@
 --
 --   selection_questions    those on a selection and its prices: amounts, balances, ranges of prices, and whether they fit
 --   submit_questions       those on the bytes of a proposal, then these
---   Submit-in-order        a yes says that all pass, and a no names the first that fails, at its first place
+--   SubmitInOrder        a yes says that all pass, and a no names the first that fails, at its first place
 use Rattle.std.specs.Prelude.{◌≡◌, ℕ, ◌↔◌, List, [], ◌∷◌, ◌++◌, length, is_some, Ok, Err, Option}
 use Rattle.scale.specs.Meaning.{Meaning}
 use Rattle.market.specs.declared.refusal.Refusal.{Refusal}
@@ -29,6 +29,6 @@ selection_questions m c s price =
 abbrev pub submit_questions : (m : Meaning) → Case → List ℕ → List Asked
 submit_questions m c bs = proposal_questions (counts_of c) m.levels bs ++ selection_questions m c (proposed c bs) (price_in m c bs)
 
-pub record Submit-in-order (m : Meaning) : Type 0 where
+pub record SubmitInOrder (m : Meaning) : Type 0 where
   pub taken : (c : Case) (bs : List ℕ) → (submit_answer m c bs ≡ Ok tt) ↔ Passes (submit_questions m c bs)
   pub refused : (c : Case) (bs : List ℕ) (e : Refusal) → (submit_answer m c bs ≡ Err e) ↔ Refuses (submit_questions m c bs) e

@@ -1,4 +1,6 @@
 // Calls on a cycle, one after the other, and what holds after each of them.
+#![tactic(auto)]
+
 mod proposal;
 mod replay;
 

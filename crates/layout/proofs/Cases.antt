@@ -1,7 +1,7 @@
 -- What the questions on the bytes of a case say, and what its reader holds. Assumes nothing.
-use Rattle.std.proofs.Common.{◌≡◌, ℕ, ◌+◌, ◌*◌, ◌/◌, ◌<◌, ◌≤◌, Bool, true, false, cond, ◌&&◌, T, eqb, leb, List, length, get_or, take, drop, ℤ, pos, Some, None, Ok, Err, Option, Result, sym, refl, ap, ◌∙◌, subst, arith, length-drop, eq-eqb, ne_eqb, eqb-true, leb-true}
-use Rattle.std.specs.List.{AllByRecursion as All}
-use Rattle.std.proofs.lemmas.List.{drop-drop, take_all, take-take, drop-take}
+use Rattle.std.proofs.Common.{◌≡◌, ℕ, ◌+◌, ◌*◌, ◌/◌, ◌<◌, ◌≤◌, Bool, true, false, cond, ◌&&◌, T, eqb, leb, List, length, get_or, take, drop, ℤ, pos, Some, None, Ok, Err, Result, sym, refl, ap, ◌∙◌, subst, arith, eq-eqb, eqb-true, leb-true}
+use Rattle.std.specs.List.{AllByRecursion}
+use Rattle.std.proofs.lemmas.List.{drop-drop, take-take, drop-take}
 use Rattle.std.proofs.ByRecursion.{All-from_get_or}
 use Rattle.market.specs.declared.refusal.Refusal.{Refusal}
 use Rattle.market.specs.declared.refusal.Refusal.TheVariants.{Header, Kind, Count, Offset, Demand, Ends, Limits, Origin, Offer}
@@ -19,7 +19,7 @@ use Rattle.records.specs.Records.{border_of, bid_of}
 use Rattle.layout.specs.CaseBytes.{bids_offset, count_allowed, offset_right, direction_known, bytes_answer, records_answer, case_answer, case_in}
 use Rattle.layout.specs.CaseReaders.{case_read, directions_read, no_direction, direction_fine, Parts}
 use Rattle.records.specs.Records.{raw_direction}
-use Rattle.layout.proofs.Asks.{and_then_first, and_then_second, ask_one_yes, ask_yes, ask_same, passed, stopped}
+use Rattle.layout.proofs.Asks.{and_then_first, and_then_second, ask_one_yes, ask_yes, ask_same, passed}
 use Rattle.records.proofs.Tables.{records_part, length_table, getD_table}
 
 case_header_there : (bs : List ℕ) (h : CaseHeader) → Some h ≡ case_header_in bs → (leb 28 (length bs) ≡ true) × (h ≡ case_header_of bs)
@@ -176,7 +176,7 @@ module _ (c : Case) (direction_ok : ℕ → Bool) where
       }
 
 -- a test that is true at every place holds of every record
-all_true : {X : Type 0} (test : X → Bool) (xs : List X) (d : X) → ((k : ℕ) → k < length xs → test (get_or xs k d) ≡ true) → All (λ x. T (test x)) xs
+all_true : {X : Type 0} (test : X → Bool) (xs : List X) (d : X) → ((k : ℕ) → k < length xs → test (get_or xs k d) ≡ true) → AllByRecursion (λ x. T (test x)) xs
 all_true test xs d h = All-from_get_or (λ x. T (test x)) xs d (λ k below. subst T (sym (h k below)) tt)
 
 pub both_first : (a b : Bool) → a && b ≡ true → a ≡ true

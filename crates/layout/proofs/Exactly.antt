@@ -1,27 +1,27 @@
 -- A case and its bytes determine each other. Assumes nothing.
-use Rattle.std.proofs.Common.{◌≡◌, ℕ, ◌+◌, ◌*◌, ◌^◌, ◌<◌, ◌≤◌, Bool, true, false, cond, ◌&&◌, ◌||◌, T, eqb, ltb, leb, List, [], ◌∷◌, ◌++◌, length, get_or, take, drop, ℤ, pos, negsuc, Ok, Err, Result, sym, refl, ap, ◌∙◌, subst, mul-le-mul_left, mul-suc, arith, length-append, length-drop, w32, SFits, ltb-true, eq-eqb, eqb-true, le-leb, leb-true}
+use Rattle.std.proofs.Common.{◌≡◌, ℕ, ◌+◌, ◌*◌, ◌<◌, ◌≤◌, Bool, true, false, cond, ◌&&◌, ◌||◌, T, eqb, ltb, leb, List, [], ◌∷◌, ◌++◌, length, get_or, take, drop, ℤ, pos, negsuc, Ok, sym, refl, ap, ◌∙◌, subst, mul-le-mul_left, mul-suc, arith, length-append, length-drop, w32, SFits, ltb-true, eq-eqb, eqb-true, le-leb, leb-true}
 use lib.Signed.{le_z}
-use Rattle.std.specs.List.{AllByRecursion as All}
+use Rattle.std.specs.List.{AllByRecursion}
 use Rattle.std.proofs.lemmas.List.{drop-drop, drop_at, take_all, append-nil}
 use Rattle.std.proofs.ByRecursion.{All-weaker, All-get_or, All-drop}
 use Rattle.std.proofs.lemmas.Int.{ints}
-use Rattle.market.specs.declared.refusal.Refusal.TheVariants.{Header, Kind, Count, Offset, Demand, Ends, Limits, Origin, Offer}
+use Rattle.market.specs.declared.refusal.Refusal.TheVariants.{Header, Count, Offset, Demand, Ends, Limits, Origin, Offer}
 use Rattle.market.specs.declared.trade.Border.{Border}
 use Rattle.market.specs.declared.trade.Bid.{Bid}
 use Rattle.market.specs.Cases.{Case, Valid, case_of, areas, no_border, no_bid, demand_at, border_at, bid_at, demand_in_range, ends_known, limits_in_range, bid_known, bid_in_range}
-use Rattle.market.specs.First.{and_then, ask, ask_one}
+use Rattle.market.specs.First.{ask, ask_one}
 use Rattle.scale.specs.Levels.{little_endian}
 use Rattle.records.specs.declared.header.CaseHeader.{CaseHeader}
 use Rattle.records.specs.Bytes.{part, word, table, signed_word, bytes_of}
 use Rattle.records.specs.Headers.{case_header_of}
 use Rattle.records.specs.Headers.{borders_start, bids_start, end_by}
 use Rattle.records.specs.Records.{border_of, bid_of}
-use Rattle.layout.specs.CaseBytes.{demand_bytes, border_bytes, bid_bytes, each, case_header, written, case_size, bids_offset, count_allowed, offset_right, direction_known, bytes_answer, records_answer, case_answer, case_in}
+use Rattle.layout.specs.CaseBytes.{demand_bytes, border_bytes, bid_bytes, each, case_header, written, case_size, count_allowed, offset_right, direction_known, bytes_answer, records_answer, case_answer, case_in}
 use Rattle.layout.specs.Exact.{Bytewise, BidsAllowed, CaseLayout}
 use Rattle.layout.proofs.Asks.{and_then_first, and_then_second, yes_one, yes_all, yes_both}
 use Rattle.layout.proofs.Cases.{header_taken, records_taken, direction_part, both_first, both_second, taken_end, taken_valid}
 use Rattle.layout.proofs.RoundTrips.{number_back, demand_back, demand_again, border_back, border_again, bid_back, bid_again, direction_low, bytes_again, all_part, length_part, part_join, table_each, part_each, each_table, length_each}
-use Rattle.records.proofs.Tables.{length_table, getD_table}
+use Rattle.records.proofs.Tables.{length_table}
 
 -- tests that hold are true
 is_true : (t : Bool) → T t → t ≡ true
@@ -88,7 +88,7 @@ module _ (c : Case) (valid : Valid c) where
       price_fits : (p : ℤ) → le_z (negsuc 9999899) p ≡ true → le_z p (pos 9999900) ≡ true → SFits w32 p
       price_fits p low high = record { sfits = grind (arith, ints) }
 
-  all_both : {X : Type 0} (P Q : X → Type 0) (xs : List X) → All P xs → All Q xs → All (λ x. P x × Q x) xs
+  all_both : {X : Type 0} (P Q : X → Type 0) (xs : List X) → AllByRecursion P xs → AllByRecursion Q xs → AllByRecursion (λ x. P x × Q x) xs
   all_both P Q [] h k = tt
   all_both P Q (x ∷ xs) (h, hs) (k, ks) = ((h, k), all_both P Q xs hs ks)
 
@@ -171,11 +171,11 @@ module _ (c : Case) (valid : Valid c) where
       ∙ (ap (λ p. leb (little_endian p) 1) (sym (direction_part (written c) k (bids_start header)) ∙ ap (part 2 2) bid)
       ∙ direction_low (get_or c.bids k no_bid).direction)
     where
-      all_long : (xs : List Bid) → All (λ b. length (bid_bytes b) ≡ 12) xs
+      all_long : (xs : List Bid) → AllByRecursion (λ b. length (bid_bytes b) ≡ 12) xs
       all_long [] = tt
       all_long (x ∷ xs) = (refl, all_long xs)
 
-  at : {X : Type 0} (test : X → Bool) (xs : List X) (d : X) → All (λ x. T (test x)) xs → (k : ℕ) → k < length xs → test (get_or xs k d) ≡ true
+  at : {X : Type 0} (test : X → Bool) (xs : List X) (d : X) → AllByRecursion (λ x. T (test x)) xs → (k : ℕ) → k < length xs → test (get_or xs k d) ≡ true
   at test xs d h k below = is_true (test (get_or xs k d)) (All-get_or (λ x. T (test x)) xs k d below h)
 
   records_yes : records_answer c (direction_known (written c)) ≡ Ok tt

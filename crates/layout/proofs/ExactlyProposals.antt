@@ -1,9 +1,8 @@
 -- A selection with its prices and the bytes of a proposal determine each other. Assumes nothing.
-use Rattle.std.proofs.Common.{◌≡◌, ℕ, zero, suc, ◌+◌, ◌*◌, ◌/◌, ◌^◌, ◌<◌, ◌≤◌, Bool, true, false, cond, ◌&&◌, eqb, leb, List, [], ◌∷◌, ◌++◌, length, get_or, take, drop, ℤ, Ok, Err, Result, sym, refl, ap, ◌∙◌, subst, append_assoc, mul-le-mul_right, mul-le-mul_left, mul-suc, arith, length-append, length-drop, w32, w64, SFits, eq-eqb, eqb-true, le-leb, leb-true}
-use native.Mathlib.Nat.{mul-div_cancel_left}
-use Rattle.std.specs.List.{AllByRecursion as All}
+use Rattle.std.proofs.Common.{◌≡◌, ℕ, ◌+◌, ◌*◌, ◌/◌, ◌^◌, ◌<◌, ◌≤◌, true, ◌&&◌, eqb, leb, List, [], ◌∷◌, ◌++◌, length, get_or, take, drop, ℤ, Ok, Result, sym, refl, ap, ◌∙◌, append_assoc, mul-le-mul_left, mul-suc, arith, length-append, w32, w64, SFits, eq-eqb, eqb-true, le-leb, leb-true}
+use Rattle.std.specs.List.{AllByRecursion}
 use Rattle.std.proofs.lemmas.List.{drop-drop, take_at, drop_at, take_all, append-nil}
-use Rattle.std.proofs.ByRecursion.{All-weaker, All-get_or, All-drop}
+use Rattle.std.proofs.ByRecursion.{All-weaker, All-get_or}
 use Rattle.market.specs.declared.refusal.Refusal.{Refusal}
 use Rattle.market.specs.declared.refusal.Refusal.TheVariants.{Header, Kind, Count, Offset}
 use Rattle.market.specs.First.{and_then, ask, ask_one}
@@ -11,25 +10,24 @@ use Rattle.market.specs.Selections.{Selection}
 use Rattle.scale.specs.Levels.{little_endian, numbers}
 use Rattle.records.specs.declared.header.ProposalHeader.{ProposalHeader}
 use Rattle.layout.specs.declared.proposal.Counts.{Counts}
-use Rattle.records.specs.Bytes.{part, word, table, records, signed_word, bytes_of}
+use Rattle.records.specs.Bytes.{part, word, table, signed_word, bytes_of}
 use Rattle.records.specs.Headers.{proposal_header_of}
 use Rattle.layout.specs.CaseBytes.{each}
-use Rattle.layout.specs.ProposalBytes.{flows_offset, activated_offset, prices_offset, proposal_end, starts, satisfied_part, flows_part, activated_part, prices_part, signed_amounts, unsigned_amounts, selection_of, selection_in, price_part, count_right, section_right, proposal_answer, amount_bytes, level_bytes, proposal_header, proposal_bytes}
+use Rattle.layout.specs.ProposalBytes.{flows_offset, activated_offset, prices_offset, proposal_end, starts, satisfied_part, flows_part, activated_part, prices_part, signed_amounts, unsigned_amounts, selection_in, price_part, count_right, section_right, proposal_answer, amount_bytes, level_bytes, proposal_header, proposal_bytes}
 use Rattle.layout.specs.Writing.{counts_in, proposal_written}
 use Rattle.layout.specs.Exact.{Bytewise, Writable, prices_in, all_levels, ProposalLayout}
 use Rattle.layout.proofs.Asks.{and_then_first, and_then_second, ask_one_yes, ask_yes, yes_one, yes_all, yes_both}
 use Rattle.layout.proofs.Cases.{both_second}
 use Rattle.layout.proofs.Exactly.{pick, both}
-use Rattle.layout.proofs.Proposals.{taken_length, selection_from, selection_same}
+use Rattle.layout.proofs.Proposals.{taken_length, selection_same}
 use Rattle.layout.proofs.RoundTrips.{number_back, bytes_again, demand_back, demand_again, level_of, level_back, level_again, numbers_table, all_part, length_part, part_join, table_each, part_each, each_table, records_each, length_each}
-use Rattle.records.proofs.Tables.{length_table}
 
 headers_same : (bs : List ℕ) (k a s b f i t l p : ℕ) → word 0 bs ≡ k → word 1 bs ≡ a → word 2 bs ≡ s → word 3 bs ≡ b → word 4 bs ≡ f → word 5 bs ≡ i → word 6 bs ≡ t → word 7 bs ≡ l → word 8 bs ≡ p
     → proposal_header_of bs ≡ record { kind = k; areas = a; satisfied = s; borders = b; flows = f; bids = i; activated = t; levels = l; prices = p }
 headers_same bs k a s b f i t l p e0 e1 e2 e3 e4 e5 e6 e7 e8 = cc
 
 -- the numbers of a price, and back
-price_back : (levels : ℕ) (p : List ℤ) → length p ≡ levels → All (SFits w64) p → numbers levels (each level_bytes p) ≡ p
+price_back : (levels : ℕ) (p : List ℤ) → length p ≡ levels → AllByRecursion (SFits w64) p → numbers levels (each level_bytes p) ≡ p
 price_back levels p long fits =
     numbers_table levels (each level_bytes p)
     ∙ (ap (λ n. table level_of 8 n (each level_bytes p)) (sym long)
@@ -52,7 +50,7 @@ each_all : (ps : List (List ℤ)) → each (each level_bytes) ps ≡ each level_
 each_all [] = refl
 each_all (p ∷ ps) = ap (λ l. each level_bytes p ++ l) (each_all ps) ∙ sym (each_append level_bytes p (all_levels ps))
 
-length_prices : (levels : ℕ) (ps : List (List ℤ)) → All (λ p. (length p ≡ levels) × All (SFits w64) p) ps → length (each (each level_bytes) ps) ≡ 8 * levels * length ps
+length_prices : (levels : ℕ) (ps : List (List ℤ)) → AllByRecursion (λ p. (length p ≡ levels) × AllByRecursion (SFits w64) p) ps → length (each (each level_bytes) ps) ≡ 8 * levels * length ps
 length_prices levels [] h = omega arith
 length_prices levels (p ∷ ps) ((long, fits), rest) =
     length-append (each level_bytes p) (each (each level_bytes) ps)
@@ -107,7 +105,7 @@ module _ (n : Counts) (levels : ℕ) (s : Selection) (prices : List (List ℤ)) 
   prices_is : prices_part n levels bytes ≡ P
   prices_is = ap (take (8 * levels * n.areas)) prices_left ∙ take_all (8 * levels * n.areas) P (omega (arith, p_long))
 
-  amounts_back : (xs : List ℤ) → All (SFits w32) xs → signed_amounts (each amount_bytes xs) ≡ xs
+  amounts_back : (xs : List ℤ) → AllByRecursion (SFits w32) xs → signed_amounts (each amount_bytes xs) ≡ xs
   amounts_back xs fits =
       records_each signed_word amount_bytes 4 xs (omega arith) (All-weaker (SFits w32) (λ z. (length (amount_bytes z) ≡ 4) × (signed_word (amount_bytes z) ≡ z)) (λ z h. (refl, demand_back z h)) xs fits)
       (length_each amount_bytes 4 (λ x. refl) xs)
@@ -125,11 +123,11 @@ module _ (n : Counts) (levels : ℕ) (s : Selection) (prices : List (List ℤ)) 
   pub prices_back : (area : ℕ) → area < n.areas → numbers levels (price_part levels (prices_part n levels bytes) area) ≡ get_or prices area []
   prices_back area below =
       let inside : area < length prices = omega (arith, w.prices_count) in
-      let fine = All-get_or (λ p. (length p ≡ levels) × All (SFits w64) p) prices area [] inside w.prices_fit in
+      let fine = All-get_or (λ p. (length p ≡ levels) × AllByRecursion (SFits w64) p) prices area [] inside w.prices_fit in
       ap (λ p. numbers levels (part (8 * levels * area) (8 * levels) p)) (prices_is ∙ sym (append-nil P))
       ∙ (ap (numbers levels)
       (part_each (numbers levels) (each level_bytes) (8 * levels) prices area [] []
-      (All-weaker (λ p. (length p ≡ levels) × All (SFits w64) p) (λ p. length (each level_bytes p) ≡ 8 * levels) (λ p h. length_each level_bytes 8 (λ x. refl) p ∙ ap (λ k. 8 * k) h.0) prices w.prices_fit)
+      (All-weaker (λ p. (length p ≡ levels) × AllByRecursion (SFits w64) p) (λ p. length (each level_bytes p) ≡ 8 * levels) (λ p h. length_each level_bytes 8 (λ x. refl) p ∙ ap (λ k. 8 * k) h.0) prices w.prices_fit)
       inside)
       ∙ price_back levels (get_or prices area []) fine.0 fine.1)
 

@@ -1,5 +1,5 @@
 -- A refusal names the first question that fails, at its first place. Assumes nothing.
-use Rattle.std.proofs.Common.{◌≡◌, ℕ, ◌<◌, Bool, true, false, cond, ◌&&◌, eqb, leb, ◌⊎◌, List, [], ◌∷◌, length, Some, None, Ok, Err, Option, Result, sym, refl, ap, ◌∙◌, subst, inl, inr, arith}
+use Rattle.std.proofs.Common.{◌≡◌, ℕ, Bool, true, false, ◌&&◌, eqb, leb, List, [], ◌∷◌, length, Some, None, Ok, Err, Option, Result, sym, refl, ap, ◌∙◌, inl, inr, arith}
 use Rattle.market.specs.declared.refusal.Refusal.{Refusal}
 use Rattle.market.specs.declared.refusal.Refusal.TheVariants.{Header, Kind, Count, Offset, Demand, Ends, Limits, Origin, Offer}
 use Rattle.market.specs.Cases.{areas, demand_at, border_at, bid_at, demand_in_range, ends_known, limits_in_range, bid_known, bid_in_range}
@@ -8,7 +8,7 @@ use Rattle.market.proofs.Firsts.{first_no_is}
 use Rattle.layout.specs.declared.proposal.Counts.{Counts}
 use Rattle.records.specs.Bytes.{word}
 use Rattle.records.specs.Headers.{case_header_of, proposal_header_of}
-use Rattle.layout.specs.CaseBytes.{case_in, count_allowed, offset_right, direction_known, bytes_answer, records_answer, case_answer}
+use Rattle.layout.specs.CaseBytes.{case_in, count_allowed, offset_right, direction_known, case_answer}
 use Rattle.layout.specs.ProposalBytes.{count_right, section_right, starts, proposal_answer}
 use Rattle.layout.specs.InOrder.{Asked, asked, Passes, Refuses, case_questions, proposal_questions, QuestionsInOrder}
 use Rattle.layout.proofs.Asks.{and_then_first, and_then_second, ask_yes, first_no_found}

@@ -1,5 +1,5 @@
 -- What the questions on the bytes of a proposal say, and where its sections stand. Assumes nothing.
-use Rattle.std.proofs.Common.{◌≡◌, ℕ, ◌+◌, ◌*◌, ◌<◌, ◌≤◌, Bool, true, false, cond, eqb, leb, List, length, take, drop, ℤ, Some, None, Ok, Err, Option, Result, sym, refl, ap, ◌∙◌, arith, length-drop, eq-eqb, ne_eqb, eqb-true}
+use Rattle.std.proofs.Common.{◌≡◌, ℕ, ◌*◌, Bool, true, false, cond, eqb, leb, List, length, take, drop, ℤ, Some, None, Ok, Err, Result, sym, refl, ap, ◌∙◌, arith, length-drop, eq-eqb, ne_eqb, eqb-true}
 use Rattle.std.proofs.lemmas.List.{drop-drop, take_all}
 use Rattle.market.specs.declared.refusal.Refusal.{Refusal}
 use Rattle.market.specs.declared.refusal.Refusal.TheVariants.{Header, Kind, Count, Offset}
@@ -8,7 +8,7 @@ use Rattle.market.specs.Selections.{Selection}
 use Rattle.records.specs.declared.header.ProposalHeader.{ProposalHeader}
 use Rattle.layout.specs.declared.proposal.Counts.{Counts}
 use Rattle.records.specs.Headers.{proposal_header_of, proposal_header_in}
-use Rattle.layout.specs.ProposalBytes.{proposal_answer, proposal_end, prices_offset, activated_offset, flows_offset, count_right, section_right, starts, satisfied_part, flows_part, activated_part, prices_part}
+use Rattle.layout.specs.ProposalBytes.{proposal_answer, proposal_end, prices_offset, activated_offset, flows_offset, count_right, section_right, starts, flows_part, activated_part, prices_part}
 use Rattle.layout.proofs.Asks.{and_then_second, ask_yes, passed, stopped}
 
 -- what the header's words say once they are all there

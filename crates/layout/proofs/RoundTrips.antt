@@ -1,9 +1,9 @@
 -- Numbers and tables to bytes and back. Assumes nothing.
-use Rattle.std.proofs.Common.{◌≡◌, ℕ, zero, suc, ◌+◌, ◌-◌, ◌*◌, ◌/◌, ◌%◌, ◌^◌, ◌<◌, ◌≤◌, Bool, true, false, cond, eqb, leb, List, [], ◌∷◌, ◌++◌, length, get_or, take, drop, ℤ, sym, refl, ap, ◌∙◌, subst, append_assoc, add_comm, mul-le-mul_left, mul-zero, mul-suc, arith, length-append, length-drop, take-add, w32, w64, Fits, SFits, to_z, of_z, eq-eqb, ne_eqb, eqb-true, leb-true}
+use Rattle.std.proofs.Common.{◌≡◌, ℕ, zero, suc, ◌+◌, ◌*◌, ◌/◌, ◌%◌, ◌^◌, ◌<◌, ◌≤◌, Bool, true, false, cond, eqb, leb, List, [], ◌∷◌, ◌++◌, length, get_or, take, drop, ℤ, sym, refl, ap, ◌∙◌, subst, append_assoc, add_comm, mul-zero, mul-suc, arith, length-append, length-drop, take-add, w32, w64, SFits, to_z, of_z, eqb-true, leb-true}
 use native.Mathlib.Nat.{mul-div_cancel_left}
 use borrow.Author.Tests.{eqb-false}
 use mir.Facts.{Fits-of_z}
-use Rattle.std.specs.List.{AllByRecursion as All}
+use Rattle.std.specs.List.{AllByRecursion}
 use Rattle.std.proofs.lemmas.List.{drop-drop, take_at, drop_at, take_all, length-take-le, append-nil}
 use Rattle.std.proofs.ByRecursion.{All-take, All-drop}
 use Rattle.std.proofs.lemmas.Int.{to_z-of_z, of_z-to_z}
@@ -141,14 +141,14 @@ module _ {X : Type 0} (f : List ℕ → X) (writes : X → List ℕ) (size : ℕ
       let whole : each writes (x ∷ xs) ++ rest ≡ writes x ++ (each writes xs ++ rest) = append_assoc (writes x) (each writes xs) rest in
       (ap (take size) whole ∙ take_at (writes x) (each writes xs ++ rest) size long, ap (drop size) whole ∙ drop_at (writes x) (each writes xs ++ rest) size long)
 
-  pub table_each : (xs : List X) (rest : List ℕ) → All (λ x. (length (writes x) ≡ size) × (f (writes x) ≡ x)) xs → table f size (length xs) (each writes xs ++ rest) ≡ xs
+  pub table_each : (xs : List X) (rest : List ℕ) → AllByRecursion (λ x. (length (writes x) ≡ size) × (f (writes x) ≡ x)) xs → table f size (length xs) (each writes xs ++ rest) ≡ xs
   table_each [] rest h = refl
   table_each (x ∷ xs) rest (here, later) =
       let run = first_run x xs rest here.0 in
       ap (λ y. y ∷ table f size (length xs) (drop size (each writes (x ∷ xs) ++ rest))) (ap f run.0 ∙ here.1)
       ∙ ap (λ l. x ∷ l) (ap (table f size (length xs)) run.1 ∙ table_each xs rest later)
 
-  pub part_each : (xs : List X) (k : ℕ) (d : X) (rest : List ℕ) → All (λ x. length (writes x) ≡ size) xs → k < length xs → part (size * k) size (each writes xs ++ rest) ≡ writes (get_or xs k d)
+  pub part_each : (xs : List X) (k : ℕ) (d : X) (rest : List ℕ) → AllByRecursion (λ x. length (writes x) ≡ size) xs → k < length xs → part (size * k) size (each writes xs ++ rest) ≡ writes (get_or xs k d)
   part_each [] k d rest h below = absurd (omega arith)
   part_each (x ∷ xs) zero d rest (here, later) below = ap (λ m. part m size (each writes (x ∷ xs) ++ rest)) (mul-zero size) ∙ (first_run x xs rest here).0
   part_each (x ∷ xs) (suc k) d rest (here, later) below =
@@ -164,7 +164,7 @@ module _ {X : Type 0} (f : List ℕ → X) (writes : X → List ℕ) (size : ℕ
       (each_table n (drop size bs) (λ k below. subst (λ (p : List ℕ). writes (f p) ≡ p) (sym (part_later f size k bs)) (h (suc k) (omega arith))))
       ∙ (sym (take-add size (size * n) bs) ∙ ap (λ m. take m bs) wide))
 
-  pub records_each : (xs : List X) → 0 < size → All (λ x. (length (writes x) ≡ size) × (f (writes x) ≡ x)) xs → length (each writes xs) ≡ size * length xs → records f size (each writes xs) ≡ xs
+  pub records_each : (xs : List X) → 0 < size → AllByRecursion (λ x. (length (writes x) ≡ size) × (f (writes x) ≡ x)) xs → length (each writes xs) ≡ size * length xs → records f size (each writes xs) ≡ xs
   records_each xs positive h long =
       ap (λ m. table f size m (each writes xs)) (ap (λ m. m / size) long ∙ mul-div_cancel_left (length xs) positive)
       ∙ (ap (table f size (length xs)) (sym (append-nil (each writes xs))) ∙ table_each xs [] h)

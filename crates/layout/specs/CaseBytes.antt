@@ -5,7 +5,7 @@
 --   bytes_answer, records_answer
 --                   the questions on the bytes, and those on the records, in order
 --   case_answer     what reading bytes as a case answers: the first question that gets a no, or a yes
-use Rattle.std.specs.Prelude.{ℕ, ◌+◌, ◌*◌, Bool, true, cond, ◌&&◌, ◌||◌, List, [], ◌∷◌, ◌++◌, length, take, drop, ℤ, Result, ◌==◌, nat_le}
+use Rattle.std.specs.Prelude.{ℕ, ◌+◌, ◌*◌, Bool, true, cond, ◌&&◌, ◌||◌, List, [], ◌∷◌, ◌++◌, length, drop, ℤ, Result, ◌==◌, nat_le}
 use Rattle.std.specs.Int.{w32}
 use Rattle.std.proofs.Common.{of_z}
 use Rattle.scale.specs.Levels.{little_endian}

@@ -9,7 +9,7 @@
 --   ProposalLayout   the bytes that are taken as a proposal are those that write a selection and its prices, one for one
 use Rattle.std.specs.Prelude.{◌≡◌, ℕ, ◌*◌, ◌^◌, ◌<◌, ◌≤◌, Bool, ◌||◌, T, ◌↔◌, List, [], ◌∷◌, ◌++◌, length, ℤ, Ok, FitsSigned, ◌==◌, slice_index_or}
 use Rattle.std.specs.Int.{w32, w64}
-use Rattle.std.specs.List.{AllByRecursion as All}
+use Rattle.std.specs.List.{AllByRecursion}
 use Rattle.scale.specs.Levels.{numbers}
 use Rattle.market.specs.Cases.{Case, Valid}
 use Rattle.market.specs.Selections.{Selection}
@@ -17,10 +17,10 @@ use Rattle.layout.specs.declared.proposal.Counts.{Counts}
 use Rattle.records.specs.Bytes.{table}
 use Rattle.layout.specs.CaseBytes.{case_in, case_answer, case_size, written}
 use Rattle.layout.specs.ProposalBytes.{proposal_answer, proposal_bytes, selection_in, prices_part, price_part}
-use Rattle.layout.specs.Writing.{counts_in, proposal_written}
+use Rattle.layout.specs.Writing.{proposal_written}
 
 abbrev pub Bytewise : List ℕ → Type 0
-Bytewise bs = All (λ b. b < 256) bs
+Bytewise bs = AllByRecursion (λ b. b < 256) bs
 
 abbrev pub BidsAllowed : (bids : Bool) → Case → Type 0
 BidsAllowed bids c = T (bids || length c.bids == 0)
@@ -43,10 +43,10 @@ pub record Writable (n : Counts) (levels : ℕ) (s : Selection) (prices : List (
   pub flows_count : length s.flows ≡ n.borders
   pub activated_count : length s.activated ≡ n.bids
   pub prices_count : length prices ≡ n.areas
-  pub satisfied_fit : All (FitsSigned w32) s.satisfied
-  pub flows_fit : All (FitsSigned w32) s.flows
-  pub activated_fit : All (λ x. x < 2 ^ 32) s.activated
-  pub prices_fit : All (λ p. (length p ≡ levels) × All (FitsSigned w64) p) prices
+  pub satisfied_fit : AllByRecursion (FitsSigned w32) s.satisfied
+  pub flows_fit : AllByRecursion (FitsSigned w32) s.flows
+  pub activated_fit : AllByRecursion (λ x. x < 2 ^ 32) s.activated
+  pub prices_fit : AllByRecursion (λ p. (length p ≡ levels) × AllByRecursion (FitsSigned w64) p) prices
 
 abbrev pub prices_in : Counts → (levels : ℕ) → List ℕ → List (List ℤ)
 prices_in n levels bs = table (numbers levels) (8 * levels) n.areas (prices_part n levels bs)

@@ -8,7 +8,7 @@
 --   price_part         the bytes of one area's price
 --   proposal_answer    what reading bytes as a proposal answers: the first question that gets a no, or a yes
 --   proposal_bytes     the bytes of a selection with the numbers of its prices
-use Rattle.std.specs.Prelude.{ℕ, ◌+◌, ◌*◌, ◌/◌, Bool, true, false, cond, ◌&&◌, List, [], ◌∷◌, ◌++◌, length, ℤ, Result, ◌==◌, nat_le}
+use Rattle.std.specs.Prelude.{ℕ, ◌+◌, ◌*◌, ◌/◌, Bool, true, cond, ◌&&◌, List, ◌++◌, length, ℤ, Result, ◌==◌, nat_le}
 use Rattle.std.specs.Int.{w32, w64}
 use Rattle.std.proofs.Common.{of_z}
 use Rattle.scale.specs.Levels.{little_endian}

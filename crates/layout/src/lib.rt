@@ -1,4 +1,6 @@
 // Cases and proposals as bytes.
+#![tactic(auto)]
+
 mod case;
 mod exact;
 mod proposal;

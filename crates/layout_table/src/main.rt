@@ -1,5 +1,7 @@
 // The layout on bytes: a case and a proposal, whole, cut, and changed at one place, with what reading them answers.
 // The file `stdout` has what the rules say of each: number, layer and place of the first question that gets a no, or zeros.
+#![tactic(auto)]
+
 use layout::{Counts, Proposal, keep, load, read_proposal};
 use market::{Amounts, Book, Refusal};
 use std::io;

@@ -9,7 +9,7 @@ use Rattle.std.proofs.Common.{◌≡◌, ℕ, zero, suc, ◌+◌, ◌/◌, ◌<�
 use mathlib.Core.Logic.{∥∥₁_elim}
 use lib.IntN.{ℤ_set}
 use lib.Signed.{quot_z}
-use Rattle.std.specs.List.{AllByRecursion as All}
+use Rattle.std.specs.List.{AllByRecursion}
 use Rattle.std.proofs.lemmas.Int.{ints}
 use Rattle.std.proofs.lemmas.Bool.Decides.{nat_tests}
 use Rattle.market.specs.declared.trade.Direction.{Direction}
@@ -80,7 +80,7 @@ sum_one (suc b) z (suc n) h =
     ∙ sum_one b z n (omega arith)
 
 -- each bid is in one area
-sum_activated : (n : ℕ) (bs : List Bid) (xs : List ℕ) → All (λ b. T (bid_known n b)) bs → sum_to (λ a. activated_in a bs xs) n ≡ injections bs xs
+sum_activated : (n : ℕ) (bs : List Bid) (xs : List ℕ) → AllByRecursion (λ b. T (bid_known n b)) bs → sum_to (λ a. activated_in a bs xs) n ≡ injections bs xs
 sum_activated n [] xs h = sum_none n
 sum_activated n (b ∷ bs) [] h = sum_none n
 sum_activated n (b ∷ bs) (x ∷ xs) h =
@@ -98,7 +98,7 @@ sum_brought n b x h =
     sum_plus (λ a. cond (eqb b.to a) x (pos 0)) (λ a. cond (eqb b.from a) (neg_ℤ x) (pos 0)) n
     ∙ (λ i. sum_one b.to x n to i +ℤ sum_one b.from (neg_ℤ x) n from i)
 
-sum_flows : (n : ℕ) (bs : List Border) (xs : List ℤ) → All (λ b. T (ends_known n b)) bs → sum_to (λ a. flows_into a bs xs) n ≡ pos 0
+sum_flows : (n : ℕ) (bs : List Border) (xs : List ℤ) → AllByRecursion (λ b. T (ends_known n b)) bs → sum_to (λ a. flows_into a bs xs) n ≡ pos 0
 sum_flows n [] xs h = sum_none n
 sum_flows n (b ∷ bs) [] h = sum_none n
 sum_flows n (b ∷ bs) (x ∷ xs) h =

@@ -7,7 +7,7 @@
 --   total_line   the word total, satisfied, activated, netted, cost
 --   lines        the lines of the places from i on, n of them
 --   listing      the whole text
-use Rattle.std.specs.Prelude.{ℕ, zero, suc, List, [], ◌∷◌, ◌++◌, length, ℤ, pos, codes, decimal, slice_index, slice_index_or}
+use Rattle.std.specs.Prelude.{ℕ, zero, suc, List, [], ◌∷◌, ◌++◌, length, pos, codes, decimal, slice_index, slice_index_or}
 use Rattle.std.specs.Fmt.{signed_decimal}
 use Rattle.market.specs.Cases.{Case, areas, demand_at}
 use Rattle.market.specs.Selections.{Selection}

@@ -1,4 +1,6 @@
 // The listing of what stands: its text and its totals.
+#![tactic(auto)]
+
 mod example;
 mod lines;
 mod sums;

@@ -1,11 +1,11 @@
 -- A valid case stays valid when a demand, limits or a volume change within their ranges. Assumes nothing.
-use Rattle.std.proofs.Common.{◌≡◌, ℕ, ◌<◌, ◌≤◌, Bool, true, false, ◌&&◌, T, leb, List, length, get_or, set, ℤ, sym, refl, ap, ◌∙◌, subst, length-set}
+use Rattle.std.proofs.Common.{ℕ, ◌<◌, ◌≤◌, Bool, true, false, ◌&&◌, T, leb, List, length, get_or, set, ℤ, sym, subst, length-set}
 use mathlib.Core.Logic.{∥∥₁_elim, ∥∥₁_prop}
-use Rattle.std.specs.List.{AllByRecursion as All}
+use Rattle.std.specs.List.{AllByRecursion}
 use Rattle.std.proofs.ByRecursion.{All-set, All-get_or}
 use Rattle.market.specs.declared.trade.Border.{Border}
 use Rattle.market.specs.declared.trade.Bid.{Bid}
-use Rattle.market.specs.Cases.{Case, Valid, case_of, no_border, no_bid, demand_in_range, ends_known, limits_in_range, bid_known, bid_in_range}
+use Rattle.market.specs.Cases.{Valid, case_of, no_border, no_bid, demand_in_range, ends_known, limits_in_range, bid_known, bid_in_range}
 use Rattle.market.specs.Changes.{with_limits, emptied}
 
 pub valid_revised : (ds : List ℤ) (bs : List Border) (os : List Bid) (a : ℕ) (d : ℤ) → T (demand_in_range d) → Valid (case_of ds bs os) → Valid (case_of (set ds a d) bs os)
@@ -14,9 +14,9 @@ valid_revised ds bs os a d ok v = record {
   few_borders = v.few_borders;
   few_bids = v.few_bids;
   demands_in_range = All-set (λ x. T (demand_in_range x)) ds a d ok v.demands_in_range;
-  borders_known = subst (λ (n : ℕ). All (λ b. T (ends_known n b)) bs) (sym (length-set ds a d)) v.borders_known;
+  borders_known = subst (λ (n : ℕ). AllByRecursion (λ b. T (ends_known n b)) bs) (sym (length-set ds a d)) v.borders_known;
   borders_in_range = v.borders_in_range;
-  bids_known = subst (λ (n : ℕ). All (λ b. T (bid_known n b)) os) (sym (length-set ds a d)) v.bids_known;
+  bids_known = subst (λ (n : ℕ). AllByRecursion (λ b. T (bid_known n b)) os) (sym (length-set ds a d)) v.bids_known;
   bids_in_range = v.bids_in_range;
 }
 

@@ -1,8 +1,8 @@
 -- The case with no records is valid. Assumes nothing.
-use Rattle.std.proofs.Common.{◌≡◌, List, [], ℤ, sym, refl, subst, zero-le}
+use Rattle.std.proofs.Common.{◌≡◌, List, [], ℤ, sym, subst, zero-le}
 use Rattle.market.specs.declared.trade.Border.{Border}
 use Rattle.market.specs.declared.trade.Bid.{Bid}
-use Rattle.market.specs.Cases.{Case, Valid, case_of}
+use Rattle.market.specs.Cases.{Valid, case_of}
 
 pub valid_none : Valid (case_of [] [] [])
 valid_none = record {

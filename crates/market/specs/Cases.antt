@@ -6,8 +6,8 @@
 --   demand_in_range, ends_known, limits_in_range, bid_known, bid_in_range
 --                   what each record owes, as tests
 --   Valid           the case is within its bounds, and every record keeps its range
-use Rattle.std.specs.Prelude.{ℕ, ◌<◌, ◌≤◌, Bool, true, false, not, ◌&&◌, T, List, length, ℤ, pos, negsuc, ◌==◌, int_le, nat_le, nat_lt, slice_index_or}
-use Rattle.std.specs.List.{AllByRecursion as All}
+use Rattle.std.specs.Prelude.{ℕ, ◌≤◌, Bool, not, ◌&&◌, T, List, length, ℤ, pos, negsuc, ◌==◌, int_le, nat_le, nat_lt, slice_index_or}
+use Rattle.std.specs.List.{AllByRecursion}
 use Rattle.market.specs.declared.trade.Border.{Border}
 use Rattle.market.specs.declared.trade.Bid.{Bid}
 use Rattle.market.specs.declared.trade.Direction.TheVariants.{Up}
@@ -64,8 +64,8 @@ pub record Valid (c : Case) : Type 0 where
   pub few_areas : length c.demands ≤ 48
   pub few_borders : length c.borders ≤ 128
   pub few_bids : length c.bids ≤ 1024
-  pub demands_in_range : All (λ d. T (demand_in_range d)) c.demands
-  pub borders_known : All (λ b. T (ends_known (areas c) b)) c.borders
-  pub borders_in_range : All (λ b. T (limits_in_range b)) c.borders
-  pub bids_known : All (λ b. T (bid_known (areas c) b)) c.bids
-  pub bids_in_range : All (λ b. T (bid_in_range b)) c.bids
+  pub demands_in_range : AllByRecursion (λ d. T (demand_in_range d)) c.demands
+  pub borders_known : AllByRecursion (λ b. T (ends_known (areas c) b)) c.borders
+  pub borders_in_range : AllByRecursion (λ b. T (limits_in_range b)) c.borders
+  pub bids_known : AllByRecursion (λ b. T (bid_known (areas c) b)) c.bids
+  pub bids_in_range : AllByRecursion (λ b. T (bid_in_range b)) c.bids

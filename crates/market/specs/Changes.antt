@@ -3,7 +3,7 @@
 --   revise_answer, revised      an area's demand is set
 --   limit_answer, limited       a border's two limits are set
 --   withdraw_answer, withdrawn  a bid's volume becomes 0
-use Rattle.std.specs.Prelude.{ℕ, Bool, ◌&&◌, length, set, ℤ, Result, nat_lt, slice_set}
+use Rattle.std.specs.Prelude.{ℕ, length, ℤ, Result, nat_lt, slice_set}
 use Rattle.market.specs.declared.trade.Border.{Border}
 use Rattle.market.specs.declared.trade.Bid.{Bid}
 use Rattle.market.specs.declared.refusal.Refusal.{Refusal}

@@ -5,7 +5,7 @@
 --   and_then     the second answer, where the first is a yes
 --   ask_one      one test: a yes, or the refusal
 --   ask          a test at each place: a yes, or the refusal at the first place that fails
-use Rattle.std.specs.Prelude.{◌≡◌, ℕ, zero, suc, ◌+◌, ◌<◌, Bool, true, false, cond, T, Some, None, Ok, Err, Option, Result}
+use Rattle.std.specs.Prelude.{◌≡◌, ℕ, zero, suc, ◌<◌, Bool, true, false, cond, Some, None, Ok, Err, Option, Result}
 
 abbrev pub first_no : (ℕ → Bool) → ℕ → ℕ → Option ℕ
 first_no ok i zero = None

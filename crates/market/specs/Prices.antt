@@ -5,7 +5,7 @@
 --   demand_fits, border_fits, bid_fits
 --                        the fitting rules, as tests
 --   Fits                 prices in range that fit every demand, border and bid
-use Rattle.std.specs.Prelude.{◌≡◌, ℕ, zero, suc, ◌<◌, Bool, true, false, cond, not, ◌&&◌, ◌||◌, T, List, length, get_or, ℤ, pos, negsuc, neg_ℤ, int_lt, nat_lt, slice_index, slice_index_or}
+use Rattle.std.specs.Prelude.{◌≡◌, ℕ, zero, suc, ◌<◌, Bool, true, not, ◌&&◌, ◌||◌, T, List, length, get_or, ℤ, pos, negsuc, neg_ℤ, int_lt, nat_lt, slice_index, slice_index_or}
 use Rattle.scale.specs.Meaning.{Meaning}
 use Rattle.market.specs.declared.trade.Direction.{Direction}
 use Rattle.market.specs.declared.trade.Direction.TheVariants.{Up, Down}

@@ -6,7 +6,7 @@
 --   activated_allowed    from 0 to the volume
 --   net                  up minus down plus flows in minus flows out of an area
 --   WithinLimits         all amounts are allowed and every area balances
-use Rattle.std.specs.Prelude.{◌≡◌, ℕ, ◌<◌, Bool, true, false, cond, ◌&&◌, T, List, [], ◌∷◌, length, ℤ, pos, ◌+ℤ◌, neg_ℤ, ◌==◌, int_le, nat_le, slice_index, slice_index_or}
+use Rattle.std.specs.Prelude.{◌≡◌, ℕ, ◌<◌, Bool, cond, ◌&&◌, T, List, [], ◌∷◌, length, ℤ, pos, ◌+ℤ◌, neg_ℤ, ◌==◌, int_le, nat_le, slice_index, slice_index_or}
 use Rattle.std.specs.Int.{int_max, int_min}
 use Rattle.market.specs.declared.trade.Direction.{Direction}
 use Rattle.market.specs.declared.trade.Direction.TheVariants.{Up, Down}

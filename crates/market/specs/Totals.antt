@@ -5,7 +5,7 @@
 --   total       the cost of a selection
 --   Beats       within the limits, and its total is smaller
 --   Unbeaten    within the limits, and nothing beats it
-use Rattle.std.specs.Prelude.{◌≡◌, ℕ, zero, suc, Bool, true, T, List, [], ◌∷◌, ℤ, unsigned_abs}
+use Rattle.std.specs.Prelude.{ℕ, zero, suc, T, List, [], ◌∷◌, ℤ, unsigned_abs}
 use Rattle.scale.specs.Meaning.{Meaning}
 use Rattle.market.specs.declared.trade.Direction.{Direction}
 use Rattle.market.specs.declared.trade.Direction.TheVariants.{Up, Down}

@@ -1,4 +1,6 @@
 // The words of the trade: areas, borders, bids, the book of a case, the amounts of a selection, and why a call is refused.
+#![tactic(auto)]
+
 mod book;
 mod changes;
 mod question;

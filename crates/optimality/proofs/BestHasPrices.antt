@@ -5,7 +5,7 @@
 --     Fitted      prices that fit every item, zero at the ground, each made of at most one cost at the ground and of costs between other nodes
 use Rattle.std.proofs.Common.{◌≡◌, ℕ, zero, suc, ◌+◌, ◌<◌, Bool, true, false, T, ◌⊎◌, List, [], ◌∷◌, length, get_or, ℤ, sym, refl, subst, inl, inr, arith}
 use lib.Signed.{lt_z}
-use Rattle.std.specs.List.{AllByRecursion as All}
+use Rattle.std.specs.List.{AllByRecursion}
 use Rattle.std.proofs.lemmas.Bool.{cases_eq}
 use Rattle.std.proofs.lemmas.List.{get_or_default}
 use Rattle.std.proofs.ByRecursion.{All-get_or, All-weaker}
@@ -93,10 +93,10 @@ module _ (G : Group) (is : List (Item G.Value)) (d : Item G.Value) (x : ℕ → 
   N = residual G is d
 
   -- a fact of every item, at the place of a step
-  here : (P : Item G.Value → Type 0) → All P is → (k : ℕ) → k < len → P (get_or is k d)
+  here : (P : Item G.Value → Type 0) → AllByRecursion P is → (k : ℕ) → k < len → P (get_or is k d)
   here P all k h = All-get_or P is k d h all
 
-  module _ (P R : G.Value → Type 0) (n : ℕ) (costs : All (Costs G P R) is) (known : All (Known (suc n)) is) where
+  module _ (P R : G.Value → Type 0) (n : ℕ) (costs : AllByRecursion (Costs G P R) is) (known : AllByRecursion (Known (suc n)) is) where
     out : (s : Step) → place s < len → N.from s ≡ 0 → P (N.cost s)
     out (raise k) h e = ((here (Costs G P R) costs k h).at_tail e).0
     out (lower k) h e = ((here (Costs G P R) costs k h).at_head e).1

@@ -4,7 +4,7 @@
 --     demand_item, border_item, bid_item      each record as an item; the area a is the node a + 1
 --     items      all of a case
 --     amounts      a selection's amounts, in the same order
-use Rattle.std.proofs.Common.{ℕ, zero, suc, List, [], ◌∷◌, ◌++◌, map, get_or, ℤ, pos, negsuc, neg_ℤ}
+use Rattle.std.proofs.Common.{ℕ, suc, List, [], ◌∷◌, ◌++◌, map, get_or, ℤ, pos, negsuc, neg_ℤ}
 use Rattle.scale.specs.Meaning.{Meaning, Laws}
 use Rattle.market.specs.declared.trade.Direction.{Direction}
 use Rattle.market.specs.declared.trade.Direction.TheVariants.{Up, Down}

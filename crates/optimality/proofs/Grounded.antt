@@ -11,7 +11,7 @@
 -- no more than the bound. So each price is the cost of a simple walk from the ground: its first arc costs one cost at the ground, or the
 -- bound, which is zero or the opposite of what one walk into the ground costs; its other arcs lie between other nodes.
 use Rattle.std.proofs.Common.{◌≡◌, ℕ, zero, suc, ◌+◌, ◌<◌, ◌≤◌, ◌⊎◌, List, [], ◌∷◌, map, length, sym, refl, ap, ◌∙◌, subst, ap₂, inl, inr, arith}
-use Rattle.std.specs.List.{AllByRecursion as All}
+use Rattle.std.specs.List.{AllByRecursion}
 use Rattle.std.proofs.lemmas.Bool.{cases_eq}
 use Rattle.std.proofs.ByRecursion.{All-weaker}
 use Rattle.optimality.proofs.Groups.{Group, Less, Leq, leq_shift, plus_zero}
@@ -30,8 +30,8 @@ pub record Made (G : Group) (P R : G.Value → Type 0) (k : ℕ) (v : G.Value) :
   pub is : v ≡ G.plus (sum_of G outer) (sum_of G inner)
   pub few_outer : length outer ≤ 1
   pub few_inner : length inner ≤ k
-  pub outer_costs : All P outer
-  pub inner_costs : All R inner
+  pub outer_costs : AllByRecursion P outer
+  pub inner_costs : AllByRecursion R inner
 
 module _ (G : Group) {A : Type 0} (N : Arcs G A) where
   pub record Tight (P R : G.Value → Type 0) (arcs : List A) (n : ℕ) : Type 0 where
@@ -45,7 +45,7 @@ module _ (G : Group) {A : Type 0} (N : Arcs G A) where
     pub walk : List A
     pub ends : Ends G N start start walk
     pub simple : Simple G N walk
-    pub inside : All (λ a. In a arcs) walk
+    pub inside : AllByRecursion (λ a. In a arcs) walk
     pub negative : Less G (spent G N walk) G.zero
 
   -- ---- walks into the ground
@@ -70,7 +70,7 @@ module _ (G : Group) {A : Type 0} (N : Arcs G A) where
   inward_away v [] h o e = h e
   inward_away v (a ∷ w) h o e = o.0 (h.0 ∙ e)
 
-  off_least : (w : List A) → Off G N 0 w → All (λ a. 1 ≤ N.to a) w
+  off_least : (w : List A) → Off G N 0 w → AllByRecursion (λ a. 1 ≤ N.to a) w
   off_least [] o = tt
   off_least (a ∷ w) o = (least (N.to a) o.0, off_least w o.1)
     where
@@ -81,7 +81,7 @@ module _ (G : Group) {A : Type 0} (N : Arcs G A) where
   record Floor (P R : G.Value → Type 0) (arcs : List A) (n : ℕ) : Type 0 where
     bound : G.Value
     made : Made G P R n bound
-    above : (w : List A) → Into w → All (λ a. In a arcs) w → Leq G (G.opposite (spent G N w)) bound
+    above : (w : List A) → Into w → AllByRecursion (λ a. In a arcs) w → Leq G (G.opposite (spent G N w)) bound
 
   module _ (P R : G.Value → Type 0) (arcs : List A) (n : ℕ)
       (outs : (a : A) → In a arcs → N.from a ≡ 0 → P (N.cost a))
@@ -89,11 +89,11 @@ module _ (G : Group) {A : Type 0} (N : Arcs G A) where
       (between : (a : A) → In a arcs → (N.from a ≡ 0 → ⊥) → (N.to a ≡ 0 → ⊥) → R (N.cost a) × R (G.opposite (N.cost a)))
       (targets : (a : A) → In a arcs → N.to a < suc n) where
     -- a simple walk that keeps off the ground has at most n arcs
-    short : (w : List A) → Simple G N w → Off G N 0 w → All (λ a. In a arcs) w → length w ≤ n
+    short : (w : List A) → Simple G N w → Off G N 0 w → AllByRecursion (λ a. In a arcs) w → length w ≤ n
     short w s o i =
         few G N 1 n w s (off_least w o) (All-weaker (λ a. In a arcs) (λ a. N.to a < 1 + n) (λ a j. omega (arith, targets a j)) w i)
 
-    undone : (v : ℕ) (w : List A) → Inward v w → Off G N 0 w → All (λ a. In a arcs) w → (xs : List G.Value) × (G.opposite (spent G N w) ≡ sum_of G xs) × (length xs ≡ length w) × All R xs
+    undone : (v : ℕ) (w : List A) → Inward v w → Off G N 0 w → AllByRecursion (λ a. In a arcs) w → (xs : List G.Value) × (G.opposite (spent G N w) ≡ sum_of G xs) × (length xs ≡ length w) × AllByRecursion R xs
     undone v [] h o i = ([], opposite_zero G, refl, tt)
     undone v (a ∷ w) h o i =
         let r = undone (N.from a) w h.1 o.1 i.1 in (
@@ -103,7 +103,7 @@ module _ (G : Group) {A : Type 0} (N : Arcs G A) where
           ((between a i.0 (inward_away (N.from a) w h.1 o.1) o.0).1, r.3),
         )
 
-    made_into : (w : List A) → Into w → All (λ a. In a arcs) w → Made G P R n (G.opposite (spent G N w))
+    made_into : (w : List A) → Into w → AllByRecursion (λ a. In a arcs) w → Made G P R n (G.opposite (spent G N w))
     made_into [] h i = elim h [ ]
     made_into (a ∷ w) h i =
         let r = undone (N.from a) w h.1.0 h.1.1.0 i.1 in
@@ -118,7 +118,7 @@ module _ (G : Group) {A : Type 0} (N : Arcs G A) where
           inner_costs = r.3;
         }
 
-    into_listed : (w : List A) → Into w → All (λ a. In a arcs) w → In w (rows (suc n) arcs)
+    into_listed : (w : List A) → Into w → AllByRecursion (λ a. In a arcs) w → In w (rows (suc n) arcs)
     into_listed [] h i = elim h [ ]
     into_listed (a ∷ w) h i = in_rows (suc n) arcs (a ∷ w) i (omega (arith, short w h.1.1.1 h.1.1.0 i.1))
 
@@ -209,7 +209,7 @@ module _ (G : Group) {A : Type 0} (N : Arcs G A) where
     plain_simple [] s = tt
     plain_simple (a ∷ w) s = (plain_off (N.to a) w s.0, plain_simple w s.1)
 
-    plain_inside : (w : List A) → All (λ s. In s (wide n arcs)) (map inr w) → All (λ a. In a arcs) w
+    plain_inside : (w : List A) → AllByRecursion (λ s. In s (wide n arcs)) (map inr w) → AllByRecursion (λ a. In a arcs) w
     plain_inside [] i = tt
     plain_inside (a ∷ w) i = (real n arcs (inr a) i.0, plain_inside w i.1)
 
@@ -226,7 +226,7 @@ module _ (G : Group) {A : Type 0} (N : Arcs G A) where
       inward : Inward v rest
       off : Off G N 0 rest
       simple : Simple G N rest
-      inside : All (λ a. In a arcs) rest
+      inside : AllByRecursion (λ a. In a arcs) rest
       kept : (x : ℕ) → Off G W x w → Off G N x rest
       costs : spent G W w ≡ G.plus bound (spent G N rest)
 
@@ -239,7 +239,7 @@ module _ (G : Group) {A : Type 0} (N : Arcs G A) where
         ((a ∷ r.0.0, ap (λ t. inr a ∷ t) r.0.1), λ z. o.0 (e.0 ∙ z))
 
     -- a walk from the ground has no added arc, or begins with one
-    out : (v : ℕ) (w : List (ℕ ⊎ A)) → Ends G W 0 v w → Off G W 0 w → Simple G W w → All (λ s. In s (wide n arcs)) w → Detour v w ⊎ Plain w
+    out : (v : ℕ) (w : List (ℕ ⊎ A)) → Ends G W 0 v w → Off G W 0 w → Simple G W w → AllByRecursion (λ s. In s (wide n arcs)) w → Detour v w ⊎ Plain w
     out v [] e o s i = inr ([], refl)
     out v (inl a ∷ []) e o s i =
         inl (record { rest = []; inward = λ z. o.0 (e.0 ∙ z); off = tt; simple = tt; inside = tt; kept = λ x p. tt; costs = refl })
@@ -263,8 +263,8 @@ module _ (G : Group) {A : Type 0} (N : Arcs G A) where
             })
         go (inr p) = inr (a ∷ p.0, ap (λ x. inr a ∷ x) p.1)
 
-    module _ (above : (w : List A) → Into w → All (λ a. In a arcs) w → Leq G (G.opposite (spent G N w)) bound) where
-      loop : (a : A) (back : List (ℕ ⊎ A)) → Plain back → Ends G W (N.to a) (N.from a) back → Off G W (N.to a) back → Simple G W back → All (λ s. In s (wide n arcs)) (inr a ∷ back) → Less G (spent G W (inr a ∷ back)) G.zero → Loop arcs
+    module _ (above : (w : List A) → Into w → AllByRecursion (λ a. In a arcs) w → Leq G (G.opposite (spent G N w)) bound) where
+      loop : (a : A) (back : List (ℕ ⊎ A)) → Plain back → Ends G W (N.to a) (N.from a) back → Off G W (N.to a) back → Simple G W back → AllByRecursion (λ s. In s (wide n arcs)) (inr a ∷ back) → Less G (spent G W (inr a ∷ back)) G.zero → Loop arcs
       loop a back p ends off simple inside negative =
           let w = p.0 in
           record {
@@ -272,12 +272,12 @@ module _ (G : Group) {A : Type 0} (N : Arcs G A) where
             walk = a ∷ w;
             ends = (refl, plain_ends (N.to a) (N.from a) w (subst (Ends G W (N.to a) (N.from a)) (sym p.1) ends));
             simple = (plain_off (N.to a) w (subst (Off G W (N.to a)) (sym p.1) off), plain_simple w (subst (Simple G W) (sym p.1) simple));
-            inside = (real n arcs (inr a) inside.0, plain_inside w (subst (All (λ s. In s (wide n arcs))) (sym p.1) inside.1));
+            inside = (real n arcs (inr a) inside.0, plain_inside w (subst (AllByRecursion (λ s. In s (wide n arcs))) (sym p.1) inside.1));
             negative = subst (λ t. Less G (G.plus (N.cost a) t) G.zero) (ap (spent G W) (sym p.1) ∙ plain_spent w) negative;
           }
 
       -- a cycle of negative cost has no added arc
-      closed : (s : ℕ ⊎ A) (back : List (ℕ ⊎ A)) → Ends G W (W.to s) (W.from s) back → Off G W (W.to s) back → Simple G W back → Off G W 0 back → All (λ t. In t (wide n arcs)) (s ∷ back) → Less G (spent G W (s ∷ back)) G.zero → Loop arcs
+      closed : (s : ℕ ⊎ A) (back : List (ℕ ⊎ A)) → Ends G W (W.to s) (W.from s) back → Off G W (W.to s) back → Simple G W back → Off G W 0 back → AllByRecursion (λ t. In t (wide n arcs)) (s ∷ back) → Less G (spent G W (s ∷ back)) G.zero → Loop arcs
       closed (inl x) back ends off simple clear inside negative = absurd ((away (suc x) 0 back (λ z. omega arith) ends clear).1 refl)
       closed (inr a) back ends off simple clear inside negative = go (cases_eq (N.to a) 0)
         where
@@ -301,7 +301,7 @@ module _ (G : Group) {A : Type 0} (N : Arcs G A) where
         (outs : (a : A) → In a arcs → N.from a ≡ 0 → P (N.cost a))
         (between : (a : A) → In a arcs → (N.from a ≡ 0 → ⊥) → (N.to a ≡ 0 → ⊥) → R (N.cost a) × R (G.opposite (N.cost a)))
         (made : Made G P R n bound) where
-      walk_made : (v : ℕ) (w : List (ℕ ⊎ A)) → Ends G W 0 v w → Off G W 0 w → All (λ s. In s (wide n arcs)) w → Made G P R (n + length w) (spent G W w)
+      walk_made : (v : ℕ) (w : List (ℕ ⊎ A)) → Ends G W 0 v w → Off G W 0 w → AllByRecursion (λ s. In s (wide n arcs)) w → Made G P R (n + length w) (spent G W w)
       walk_made v [] e o i =
           record { outer = []; inner = []; is = sym (G.zero_plus G.zero); few_outer = omega arith; few_inner = omega arith; outer_costs = tt; inner_costs = tt }
       walk_made v (inl a ∷ []) e o i =
@@ -340,7 +340,7 @@ module _ (G : Group) {A : Type 0} (N : Arcs G A) where
             inner_costs = ((between a (real n arcs (inr a) i.0) (λ z. o.1.0 (e.1.0 ∙ z)) o.0).0, r.inner_costs);
           }
 
-  wide_least : (bound : G.Value) (w : List (ℕ ⊎ A)) → Off G (widened bound) 0 w → All (λ s. 1 ≤ wide_to s) w
+  wide_least : (bound : G.Value) (w : List (ℕ ⊎ A)) → Off G (widened bound) 0 w → AllByRecursion (λ s. 1 ≤ wide_to s) w
   wide_least bound [] o = tt
   wide_least bound (s ∷ w) o = (least (wide_to s) o.0, wide_least bound w o.1)
     where
@@ -373,7 +373,7 @@ module _ (G : Group) {A : Type 0} (N : Arcs G A) where
       reach zero l = ([], record { ends = refl; off = tt; simple = tt; inside = tt })
       reach (suc a) l = (inl a ∷ [], record { ends = (refl, refl); off = (λ z. omega arith, tt); simple = (tt, tt); inside = (wide_extra n arcs a (omega arith), tt) })
 
-      brief : (w : List (ℕ ⊎ A)) → Simple G W' w → Off G W' 0 w → All (λ s. In s (wide n arcs)) w → length w ≤ n
+      brief : (w : List (ℕ ⊎ A)) → Simple G W' w → Off G W' 0 w → AllByRecursion (λ s. In s (wide n arcs)) w → length w ≤ n
       brief w s o i = few G W' 1 n w s (wide_least f.bound w o) (All-weaker (λ t. In t (wide n arcs)) (λ t. wide_to t < 1 + n) (λ t j. omega (arith, into t j)) w i)
 
       go : Prices G W' (wide n arcs) 0 (suc n) ⊎ Cycle G W' (wide n arcs) 0 → Tight P R arcs n ⊎ Loop arcs

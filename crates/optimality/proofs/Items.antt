@@ -7,7 +7,7 @@
 --     Known      both ends are nodes below n
 use Rattle.std.proofs.Common.{◌≡◌, ℕ, zero, suc, ◌<◌, Bool, true, false, cond, eqb, List, [], ◌∷◌, ◌++◌, length, get_or, ℤ, pos, negsuc, ◌+ℤ◌, neg_ℤ, ◌≤ℤ◌, ◌<ℤ◌, sym, refl, ap, ◌∙◌, subst, ap₂, arith}
 use borrow.Author.Differences.{up, down, ints}
-use Rattle.std.specs.List.{AllByRecursion as All}
+use Rattle.std.specs.List.{AllByRecursion}
 use Rattle.std.proofs.ByRecursion.{All-get_or}
 use Rattle.optimality.proofs.Groups.{Group, Leq, leq_shift}
 use Rattle.optimality.proofs.Multiples.{times, scaled, scaled_of_sum, scaled_of_zero, scaled_of_opposite, scaled_one, scaled_minus_one, weigh, weigh_plus, weigh_at, nil, var, ◌⊕◌, neg, solve}
@@ -104,7 +104,7 @@ module _ (G : Group) where
             (solve G (h ∷ t ∷ c ∷ []) ((var 2 ⊕ neg (var 0 ⊕ neg (var 1))) ⊕ var 0) ((var 1 ⊕ var 2) ⊕ nil) tt)),
       )
 
-  pub no_cheaper : (is : List (Item Value)) (n : ℕ) (p : ℕ → Value) (x y : ℕ → ℤ) → All (Known n) is → p 0 ≡ G.zero →
+  pub no_cheaper : (is : List (Item Value)) (n : ℕ) (p : ℕ → Value) (x y : ℕ → ℤ) → AllByRecursion (Known n) is → p 0 ≡ G.zero →
       Each (Fitting G p) is x → Each InBounds is y → ((v : ℕ) → suc v < n → net_at is x (suc v) ≡ net_at is y (suc v)) →
       Leq G (gather G (λ i. i.cost) is x) (gather G (λ i. i.cost) is y)
   no_cheaper is n p x y known ground fits within balanced =

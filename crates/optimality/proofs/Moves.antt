@@ -10,7 +10,7 @@
 use Rattle.std.proofs.Common.{◌≡◌, ℕ, zero, suc, ◌+◌, ◌<◌, Bool, true, false, cond, eqb, ◌⊎◌, List, [], ◌∷◌, length, get_or, ℤ, pos, negsuc, ◌+ℤ◌, neg_ℤ, ◌≤ℤ◌, ◌<ℤ◌, sym, refl, ap, ◌∙◌, subst, ap₂, inl, inr, arith}
 use lib.IntN.{+ℤ_idr, +ℤ_invr}
 use borrow.Author.Differences.{ints}
-use Rattle.std.specs.List.{AllByRecursion as All}
+use Rattle.std.specs.List.{AllByRecursion}
 use Rattle.std.proofs.lemmas.List.{get_or_default}
 use Rattle.optimality.proofs.Groups.{Group, Less, less_shift}
 use Rattle.optimality.proofs.Multiples.{scaled_one, scaled_minus_one, nil, var, ◌⊕◌, solve}
@@ -134,7 +134,7 @@ module _ (G : Group) (is : List (Item G.Value)) (d : Item G.Value) where
   step_cost (raise k) h = gather_at G (λ i. i.cost) is k (pos 1) d h ∙ scaled_one G (get_or is k d).cost
   step_cost (lower k) h = gather_at G (λ i. i.cost) is k (negsuc 0) d h ∙ scaled_minus_one G (get_or is k d).cost
 
-  pub walk_cost : (w : List Step) → All (λ s. place s < length is) w → gather G (λ i. i.cost) is (moved w) ≡ spent G residual w
+  pub walk_cost : (w : List Step) → AllByRecursion (λ s. place s < length is) w → gather G (λ i. i.cost) is (moved w) ≡ spent G residual w
   walk_cost [] h = gather_none G (λ i. i.cost) is
   walk_cost (s ∷ w) h =
       gather_plus G (λ i. i.cost) is (at (place s) (signed s)) (moved w) ∙ ap₂ G.plus (step_cost s h.0) (walk_cost w h.1)
@@ -159,7 +159,7 @@ module _ (G : Group) (is : List (Item G.Value)) (d : Item G.Value) where
       turn : (a b : ℤ) → neg_ℤ a +ℤ b ≡ b +ℤ neg_ℤ a
       turn a b = omega (arith, ints)
 
-  pub walk_net : (u z : ℕ) (w : List Step) (v : ℕ) → Ends G residual u z w → All (λ s. place s < length is) w → net_at is (moved w) v ≡ here z v +ℤ neg_ℤ (here u v)
+  pub walk_net : (u z : ℕ) (w : List Step) (v : ℕ) → Ends G residual u z w → AllByRecursion (λ s. place s < length is) w → net_at is (moved w) v ≡ here z v +ℤ neg_ℤ (here u v)
   walk_net u z [] v e h =
       gather_none whole (λ i. effect i v) is
       ∙ sym (ap (λ t. here t v +ℤ neg_ℤ (here u v)) (sym e) ∙ +ℤ_invr (here u v))
@@ -186,7 +186,7 @@ module _ (G : Group) (is : List (Item G.Value)) (d : Item G.Value) where
         go (inl e) r = omega arith
         go (inr e) r = absurd (o.0 (ap to e.1))
 
-    once : (w : List Step) (s : Step) → Simple G residual w → All Open w → (uses s w ≡ 0) ⊎ ((uses s w ≡ 1) × Open s)
+    once : (w : List Step) (s : Step) → Simple G residual w → AllByRecursion Open w → (uses s w ≡ 0) ⊎ ((uses s w ≡ 1) × Open s)
     once [] s p o = inl refl
     once (t ∷ w) s p o = go (alike_cases t s) (once w s p.1 o.1)
       where
@@ -197,13 +197,13 @@ module _ (G : Group) (is : List (Item G.Value)) (d : Item G.Value) where
             let n : uses s w ≡ 0 = never w s (subst (λ t. Off G residual (to t) w) e.1 p.0) in
             inr (omega (arith, e.0), subst Open e.1 o.0)
 
-    kept : (w : List Step) → Simple G residual w → All Open w → Each InBounds is x → Each InBounds is (λ k. x k +ℤ moved w k)
+    kept : (w : List Step) → Simple G residual w → AllByRecursion Open w → Each InBounds is x → Each InBounds is (λ k. x k +ℤ moved w k)
     kept w p o within k e h =
         let b = within k d h in
         subst (λ i. InBounds i (x k +ℤ moved w k)) (get_or_default is k d e h)
         (stays (get_or is k d).low (get_or is k d).high (x k) (uses (raise k) w) (uses (lower k) w) (moved w k) b.0 b.1 (moved_uses w k) (once w (raise k) p o) (once w (lower k) p o))
 
-    pub better : (u : ℕ) (w : List Step) → Ends G residual u u w → Simple G residual w → All Open w → All (λ s. place s < length is) w → Less G (spent G residual w) G.zero → Each InBounds is x → Better G is x
+    pub better : (u : ℕ) (w : List Step) → Ends G residual u u w → Simple G residual w → AllByRecursion Open w → AllByRecursion (λ s. place s < length is) w → Less G (spent G residual w) G.zero → Each InBounds is x → Better G is x
     better u w ends simple room below negative within =
         let c = gather G (λ i. i.cost) is x in
         let m = spent G residual w in

@@ -7,8 +7,8 @@
 -- If an arc from u to v undercuts the price of v, take the best simple walk to u. Where v is not on it, the walk with the arc added is
 -- simple and cheaper than the best one to v, which cannot be. Where v is on it, part the walk at v: its early part is a simple walk to
 -- v, so it costs at least the price of v, and its late part with the arc is a closed walk of negative cost, simple already.
-use Rattle.std.proofs.Common.{◌≡◌, ℕ, zero, ◌+◌, ◌<◌, ◌≤◌, ◌⊎◌, List, [], ◌∷◌, sym, refl, ap, ◌∙◌, subst, inl, inr, arith}
-use Rattle.std.specs.List.{AllByRecursion as All}
+use Rattle.std.proofs.Common.{◌≡◌, ℕ, ◌+◌, ◌<◌, ◌≤◌, ◌⊎◌, List, [], ◌∷◌, sym, refl, ap, ◌∙◌, subst, inl, inr, arith}
+use Rattle.std.specs.List.{AllByRecursion}
 use Rattle.std.proofs.lemmas.Bool.{cases_eq}
 use Rattle.std.proofs.ByRecursion.{All-weaker}
 use Rattle.optimality.proofs.Groups.{Group, Less, Leq, leq_or_less, less_leq_trans, less_shift}
@@ -51,7 +51,7 @@ module _ (G : Group) {A : Type 0} (N : Arcs G A) where
     pub off : Off G N (N.to closing) back
     pub simple : Simple G N back
     pub clear : Off G N g back
-    pub inside : All (λ a. In a arcs) (closing ∷ back)
+    pub inside : AllByRecursion (λ a. In a arcs) (closing ∷ back)
     pub negative : Less G (spent G N (closing ∷ back)) G.zero
 
   pub record Prices (arcs : List A) (g n : ℕ) : Type 0 where

@@ -8,7 +8,7 @@ use lib.Dec.{leb-zero, leb-suc-zero, not_T}
 use lib.Signed.{lt_z, le_z}
 use borrow.Author.Differences.{ints}
 use Rattle.std.specs.Int.{int_max, int_min}
-use Rattle.std.specs.List.{AllByRecursion as All}
+use Rattle.std.specs.List.{AllByRecursion}
 use Rattle.std.proofs.ByRecursion.{All-append, All-map, All-weaker}
 use Rattle.scale.specs.Meaning.{Meaning, Laws}
 use Rattle.market.specs.declared.trade.Direction.{Direction}
@@ -92,7 +92,7 @@ module _ (m : Meaning) where
   bid_least b z h = bid_least_of b.direction b.area b.volume b.price z h
 
   -- ---- the ends of the items
-  demands_known : (n a : ℕ) (ds : List ℤ) → a + length ds ≤ n → All (Known (suc n)) (demand_items m a ds)
+  demands_known : (n a : ℕ) (ds : List ℤ) → a + length ds ≤ n → AllByRecursion (Known (suc n)) (demand_items m a ds)
   demands_known n a [] h = tt
   demands_known n a (pos d ∷ ds) h = ((omega arith, omega arith), demands_known n (suc a) ds (omega arith))
   demands_known n a (negsuc d ∷ ds) h = ((omega arith, omega arith), demands_known n (suc a) ds (omega arith))
@@ -108,7 +108,7 @@ module _ (m : Meaning) where
   bid_known_of n Up area volume price h = (omega arith, omega arith)
   bid_known_of n Down area volume price h = (omega arith, omega arith)
 
-  pub items_known : (c : Case) → Valid c → All (Known (suc (areas c))) (items m c)
+  pub items_known : (c : Case) → Valid c → AllByRecursion (Known (suc (areas c))) (items m c)
   items_known c valid =
       All-append (Known (suc (areas c))) (demand_items m 0 c.demands) (map (border_item m) c.borders ++ map (bid_item m) c.bids)
       (demands_known (areas c) 0 c.demands (omega arith))

@@ -10,7 +10,7 @@
 -- negative cycle, and borders cost nothing, so each price is zero, one unit cost, or the opposite of one.
 use Rattle.std.proofs.Common.{◌≡◌, ℕ, zero, suc, ◌+◌, ◌<◌, not, ◌&&◌, T, eqb, ltb, leb, ◌⊎◌, List, [], ◌∷◌, ◌++◌, map, length, get_or, ℤ, pos, negsuc, nat_abs, sym, refl, ap, ◌∙◌, subst, ap₂, subst₂, inl, inr, arith, ltb→lt}
 use lib.Signed.{le_z}
-use Rattle.std.specs.List.{range_with_len, AllByRecursion as All}
+use Rattle.std.specs.List.{range_with_len, AllByRecursion}
 use Rattle.std.proofs.lemmas.List.{length-map}
 use Rattle.std.proofs.lemmas.List.FromFn.{length-map-range_with_len, get_or-map-range_with_len}
 use Rattle.std.proofs.ByRecursion.{All-append, All-map, All-weaker, All-get_or}
@@ -146,7 +146,7 @@ module _ (m : Meaning) (laws : Laws m) where
   gain_both : (v : m.Value) → UnitCost m v → SignedCost m (m.opposite v) × SignedCost m (m.opposite (m.opposite v))
   gain_both v u = (gain v u, subst (SignedCost m) (sym (opposite_twice G v)) (cost v u))
 
-  demand_costs : (a : ℕ) (ds : List ℤ) → All Ok (demand_items m a ds)
+  demand_costs : (a : ℕ) (ds : List ℤ) → AllByRecursion Ok (demand_items m a ds)
   demand_costs a [] = tt
   demand_costs a (pos d ∷ ds) = (
     record { at_tail = λ e. unit_both m.satisfied of_satisfied; at_head = λ e. unit_both m.satisfied of_satisfied; between = λ t h. absurd (h refl) },
@@ -171,7 +171,7 @@ module _ (m : Meaning) (laws : Laws m) where
       let p = T_and (le_z (negsuc 9999899) b.price) (le_z b.price (pos 9999900)) (T_and (leb b.volume 9999000) (le_z (negsuc 9999899) b.price && le_z b.price (pos 9999900)) h).1 in
       bid_costs_of b.direction b.area b.volume b.price (record { least = record { le = p.0 }; most = record { le = p.1 } })
 
-  items_costs : (c : Case) → Valid c → All Ok (items m c)
+  items_costs : (c : Case) → Valid c → AllByRecursion Ok (items m c)
   items_costs c valid =
       All-append Ok (demand_items m 0 c.demands) (map (border_item m) c.borders ++ map (bid_item m) c.bids) (demand_costs 0 c.demands)
       (All-append Ok (map (border_item m) c.borders) (map (bid_item m) c.bids)
@@ -183,7 +183,7 @@ module _ (m : Meaning) (laws : Laws m) where
   sum_is [] = refl
   sum_is (v ∷ vs) = ap (m.plus v) (sum_is vs)
 
-  sum_zero : (vs : List m.Value) → All Zero vs → sum_of G vs ≡ m.zero
+  sum_zero : (vs : List m.Value) → AllByRecursion Zero vs → sum_of G vs ≡ m.zero
   sum_zero [] h = refl
   sum_zero (v ∷ vs) h = ap₂ m.plus h.0 (sum_zero vs h.1) ∙ laws.zero_plus m.zero
 

@@ -9,7 +9,7 @@
 --     Walk      a simple walk over given arcs that does not come back to where it starts
 --     Part      a walk parted at a node
 use Rattle.std.proofs.Common.{◌≡◌, ℕ, zero, suc, ◌+◌, ◌<◌, ◌≤◌, ◌⊎◌, List, [], ◌∷◌, ◌++◌, map, length, sym, refl, ap, ◌∙◌, subst, inl, inr, arith}
-use Rattle.std.specs.List.{AllByRecursion as All}
+use Rattle.std.specs.List.{AllByRecursion}
 use Rattle.std.proofs.lemmas.Bool.{cases_eq}
 use Rattle.optimality.proofs.Groups.{Group, Less, Leq, leq_refl, leq_trans, less_leq, leq_or_less}
 
@@ -43,7 +43,7 @@ module _ (G : Group) {A : Type 0} (N : Arcs G A) where
     pub ends : Ends g v w
     pub off : Off g w
     pub simple : Simple w
-    pub inside : All (λ a. In a arcs) w
+    pub inside : AllByRecursion (λ a. In a arcs) w
 
   pub record Part (arcs : List A) (g v u : ℕ) (w : List A) : Type 0 where
     pub late : List A
@@ -52,7 +52,7 @@ module _ (G : Group) {A : Type 0} (N : Arcs G A) where
     pub late_off : Off v late
     pub late_simple : Simple late
     pub late_kept : (x : ℕ) → Off x w → Off x late
-    pub late_inside : All (λ a. In a arcs) late
+    pub late_inside : AllByRecursion (λ a. In a arcs) late
     pub early_walk : Walk arcs g v early
     pub costs : spent w ≡ G.plus (spent late) (spent early)
 
@@ -113,13 +113,13 @@ module _ (G : Group) {A : Type 0} (N : Arcs G A) where
   record Thin (low n : ℕ) (w : List A) : Type 0 where
     rest : List A
     simple : Simple rest
-    above : All (λ a. low ≤ N.to a) rest
-    below : All (λ a. N.to a < low + n) rest
+    above : AllByRecursion (λ a. low ≤ N.to a) rest
+    below : AllByRecursion (λ a. N.to a < low + n) rest
     kept : (x : ℕ) → Off x w → Off x rest
     short : length w ≤ suc (length rest)
     same : Off (low + n) w → length w ≤ length rest
 
-  thin : (low n : ℕ) (w : List A) → Simple w → All (λ a. low ≤ N.to a) w → All (λ a. N.to a < low + suc n) w → Thin low n w
+  thin : (low n : ℕ) (w : List A) → Simple w → AllByRecursion (λ a. low ≤ N.to a) w → AllByRecursion (λ a. N.to a < low + suc n) w → Thin low n w
   thin low n [] s l b = record { rest = []; simple = tt; above = tt; below = tt; kept = λ x o. tt; short = omega arith; same = λ o. omega arith }
   thin low n (a ∷ w) s l b = go (cases_eq (N.to a) (low + n)) (thin low n w s.1 l.1 b.1)
     where
@@ -139,7 +139,7 @@ module _ (G : Group) {A : Type 0} (N : Arcs G A) where
             same = λ o. omega (arith, t.same o.1);
           }
 
-  pub few : (low n : ℕ) (w : List A) → Simple w → All (λ a. low ≤ N.to a) w → All (λ a. N.to a < low + n) w → length w ≤ n
+  pub few : (low n : ℕ) (w : List A) → Simple w → AllByRecursion (λ a. low ≤ N.to a) w → AllByRecursion (λ a. N.to a < low + n) w → length w ≤ n
   few low zero [] s l b = omega arith
   few low zero (a ∷ w) s l b = absurd (omega (arith, l.0, b.0))
   few low (suc n) w s l b = let t = thin low n w s l b in omega (arith, t.short, few low n t.rest t.simple t.above t.below)
@@ -178,7 +178,7 @@ in_map f x [] i = elim i [ ]
 in_map f x (y ∷ xs) (inl e) = inl (ap f e)
 in_map f x (y ∷ xs) (inr i) = inr (in_map f x xs i)
 
-pub in_all : {X : Type 0} (P : X → Type 0) (x : X) (xs : List X) → All P xs → In x xs → P x
+pub in_all : {X : Type 0} (P : X → Type 0) (x : X) (xs : List X) → AllByRecursion P xs → In x xs → P x
 in_all P x [] a i = elim i [ ]
 in_all P x (y ∷ xs) a (inl e) = subst P (sym e) a.0
 in_all P x (y ∷ xs) a (inr i) = in_all P x xs a.1 i
@@ -191,32 +191,32 @@ module _ {A : Type 0} where
       in_left (a ∷ w) (map (λ v. b ∷ v) ws) (extend ps ws) (subst (λ x. In (x ∷ w) (map (λ v. b ∷ v) ws)) (sym e) (in_map (λ v. b ∷ v) w ws j))
   in_extend a w (b ∷ ps) ws (inr i) j = in_right (a ∷ w) (map (λ v. b ∷ v) ws) (extend ps ws) (in_extend a w ps ws i j)
 
-  pub in_rows : (k : ℕ) (ps w : List A) → All (λ a. In a ps) w → length w ≤ k → In w (rows k ps)
+  pub in_rows : (k : ℕ) (ps w : List A) → AllByRecursion (λ a. In a ps) w → length w ≤ k → In w (rows k ps)
   unfolding rows
   in_rows zero ps [] i l = inl refl
   in_rows zero ps (a ∷ w) i l = absurd (omega arith)
   in_rows (suc k) ps [] i l = inl refl
   in_rows (suc k) ps (a ∷ w) i l = inr (in_extend a w ps (rows k ps) i.0 (in_rows k ps w i.1 (omega arith)))
 
-  mapped_inside : (P : A → Type 0) (a : A) (w : List A) (ws : List (List A)) → P a → ((v : List A) → In v ws → All P v) → In w (map (λ v. a ∷ v) ws) → All P w
+  mapped_inside : (P : A → Type 0) (a : A) (w : List A) (ws : List (List A)) → P a → ((v : List A) → In v ws → AllByRecursion P v) → In w (map (λ v. a ∷ v) ws) → AllByRecursion P w
   mapped_inside P a w [] pa h i = elim i [ ]
-  mapped_inside P a w (v ∷ ws) pa h (inl e) = subst (All P) (sym e) (pa, h v (inl refl))
+  mapped_inside P a w (v ∷ ws) pa h (inl e) = subst (AllByRecursion P) (sym e) (pa, h v (inl refl))
   mapped_inside P a w (v ∷ ws) pa h (inr i) = mapped_inside P a w ws pa (λ u j. h u (inr j)) i
 
-  extended_inside : (P : A → Type 0) (w : List A) (ps : List A) (ws : List (List A)) → ((a : A) → In a ps → P a) → ((v : List A) → In v ws → All P v) → In w (extend ps ws) → All P w
+  extended_inside : (P : A → Type 0) (w : List A) (ps : List A) (ws : List (List A)) → ((a : A) → In a ps → P a) → ((v : List A) → In v ws → AllByRecursion P v) → In w (extend ps ws) → AllByRecursion P w
   unfolding extend
   extended_inside P w [] ws pa h i = elim i [ ]
   extended_inside P w (a ∷ ps) ws pa h i = go (in_cases w (map (λ v. a ∷ v) ws) (extend ps ws) i) (extended_inside P w ps ws (λ b j. pa b (inr j)) h)
     where
-      go : In w (map (λ v. a ∷ v) ws) ⊎ In w (extend ps ws) → (In w (extend ps ws) → All P w) → All P w
+      go : In w (map (λ v. a ∷ v) ws) ⊎ In w (extend ps ws) → (In w (extend ps ws) → AllByRecursion P w) → AllByRecursion P w
       go (inl j) rest = mapped_inside P a w ws (pa a (inl refl)) h j
       go (inr j) rest = rest j
 
-  pub rows_inside : (P : A → Type 0) (k : ℕ) (ps w : List A) → ((a : A) → In a ps → P a) → In w (rows k ps) → All P w
+  pub rows_inside : (P : A → Type 0) (k : ℕ) (ps w : List A) → ((a : A) → In a ps → P a) → In w (rows k ps) → AllByRecursion P w
   unfolding rows
-  rows_inside P zero ps w pa (inl e) = subst (All P) (sym e) tt
+  rows_inside P zero ps w pa (inl e) = subst (AllByRecursion P) (sym e) tt
   rows_inside P zero ps w pa (inr i) = elim i [ ]
-  rows_inside P (suc k) ps w pa (inl e) = subst (All P) (sym e) tt
+  rows_inside P (suc k) ps w pa (inl e) = subst (AllByRecursion P) (sym e) tt
   rows_inside P (suc k) ps w pa (inr i) = extended_inside P w ps (rows k ps) pa (λ v j. rows_inside P k ps v pa j) i
 
 -- ---- the least of a list, among those that keep a decidable condition

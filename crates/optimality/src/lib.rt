@@ -1,4 +1,6 @@
 // Why one price for each area proves a selection the best, on any scale. The functions compute nothing: their contracts are the theorem.
+#![tactic(auto)]
+
 ghost use Rattle.optimality.specs.Theorem.{FittingIsUnbeaten, UnbeatenHasPrices, UnbeatenExactlyWhenPricesFit};
 
 use scale::Scale;

@@ -1,5 +1,5 @@
 -- One comparison settles both requirements of an amount. Assumes nothing.
-use Rattle.std.proofs.Common.{◌≡◌, Bool, true, false, cond, not, T, Ordering, Less, Equal, Greater, sym, refl, ap, ◌∙◌}
+use Rattle.std.proofs.Common.{◌≡◌, Bool, true, false, cond, not, T, Less, Equal, Greater, refl}
 use Rattle.scale.specs.Meaning.{Meaning, Laws, order}
 use Rattle.market.specs.Prices.{at_limits, at_least, at_most}
 use Rattle.prices.specs.Limits.{settles}

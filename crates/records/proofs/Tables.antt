@@ -1,5 +1,5 @@
 -- Tables of records: how one grows, and what stands at a place. Assumes nothing.
-use Rattle.std.proofs.Common.{◌≡◌, ℕ, zero, suc, ◌+◌, ◌-◌, ◌*◌, ◌/◌, ◌%◌, ◌<◌, ◌≤◌, Bool, true, false, cond, ltb, leb, List, [], ◌∷◌, ◌++◌, length, get_or, take, drop, ℤ, Some, None, Option, unwrap_or, sym, refl, ap, ◌∙◌, add_assoc, add_comm, mul-le-mul_left, mul-zero, mul-suc, add-one, arith, length-drop, w32, SFits, to_z, of_z, le-ltb, lt-ltb, le-leb}
+use Rattle.std.proofs.Common.{◌≡◌, ℕ, zero, suc, ◌+◌, ◌-◌, ◌*◌, ◌/◌, ◌%◌, ◌<◌, ◌≤◌, cond, leb, List, [], ◌∷◌, ◌++◌, length, get_or, take, drop, ℤ, Some, None, Option, unwrap_or, sym, refl, ap, ◌∙◌, add_comm, mul-le-mul_left, mul-zero, mul-suc, add-one, arith, length-drop, w32, SFits, to_z, of_z, le-ltb, lt-ltb, le-leb}
 use native.Mathlib.Nat.{div-add-mod, mul-div_cancel_left}
 use native.Mathlib.Decide.{dec_lt}
 use Rattle.std.proofs.lemmas.List.{drop-drop, drop-take, take-take, take_rest, length-take-le}

@@ -1,4 +1,6 @@
 // Header words and records of a fixed size, read from bytes.
+#![tactic(auto)]
+
 mod header;
 mod record;
 

@@ -1,4 +1,6 @@
 // replay: reads a list of calls, makes them on a fresh cycle, and writes what each of them answers.
+#![tactic(auto)]
+
 ghost use Rattle.std.specs.Prelude.{◌≡◌};
 ghost use Rattle.cycle.specs.Sent.{sent};
 ghost use Rattle.replay.specs.Plans.{intended};
@@ -7,6 +9,8 @@ use anyhow::anyhow;
 use cycle::{Answer, Call, Item};
 use scale::{Activation, Netting, Scale};
 use std::alloc::{AllocError, Global};
+use std::fmt::Debug;
+use std::process::ExitCode;
 use std::{env, fs};
 
 const HELP: &str = "usage: replay [CALLS]
@@ -83,16 +87,32 @@ struct Plan {
     begun: bool,
 }
 
-fn main(rt: HostRuntime) -> anyhow::Result<()> {
-    match asked(&rt) {
-        Ok(Task::Help) => say(&rt, HELP),
-        Ok(Task::Version) => say(&rt, VERSION),
-        Ok(Task::Replay(path)) => replay(&rt, path.as_str()),
+fn main(rt: HostRuntime) -> ExitCode {
+    match run(&rt) {
+        Ok(()) => ExitCode::SUCCESS,
+        Err(_) => ExitCode::FAILURE,
+    }
+}
+
+// Does what is asked. Each trouble is told where it is met.
+fn run(rt: &HostRuntime) -> anyhow::Result<()> {
+    match asked(rt) {
+        Ok(Task::Help) => report(rt, say(rt, HELP)),
+        Ok(Task::Version) => report(rt, say(rt, VERSION)),
+        Ok(Task::Replay(path)) => replay(rt, path.as_str()),
         Err(trouble) => {
             let _ = eprintln!(rt; "replay: {trouble}");
             Err(trouble)
         }
     }
+}
+
+// Tells of an error that no message has told of yet.
+fn report<T, E: Debug>(rt: &HostRuntime, answer: Result<T, E>) -> Result<T, E> {
+    if let Err(trouble) = &answer {
+        let _ = eprintln!(rt; "Error: {trouble:?}");
+    }
+    answer
 }
 
 // One path, one flag, or nothing.
@@ -128,7 +148,7 @@ fn replay(rt: &HostRuntime, path: &str) -> anyhow::Result<()> {
     };
     let plan = plan_of(rt, path, text.as_str())?;
     match answers(rt.alloc(), &plan) {
-        Ok(answers) => release(rt, answers.as_str()),
+        Ok(answers) => report(rt, release(rt, answers.as_str())),
         Err(trouble) => {
             let _ = eprintln!(rt; "replay: {trouble}");
             Err(trouble.into())

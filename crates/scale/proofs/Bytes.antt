@@ -6,11 +6,11 @@
 --   both_read        what a pair reads, from what its parts read
 --   told             what a call read, once `?` has told which way it went
 --   pair_reads       a pair reads its first part from the front, and its second from the rest
-use Rattle.std.proofs.Common.{◌≡◌, ℕ, zero, suc, ◌+◌, ◌*◌, ◌≤◌, min, Bool, true, false, cond, ◌&&◌, eqb, leb, List, [], ◌∷◌, ◌++◌, length, take, drop, ℤ, Some, None, Option, sym, refl, ap, ◌∙◌, zero-add, arith, w64, to_z}
+use Rattle.std.proofs.Common.{◌≡◌, ℕ, zero, suc, ◌+◌, ◌*◌, ◌≤◌, min, Bool, true, false, cond, ◌&&◌, eqb, leb, List, ◌∷◌, ◌++◌, length, take, drop, Some, None, Option, sym, refl, ap, ◌∙◌, zero-add, arith, w64, to_z}
 use Rattle.std.specs.Option.{option_map}
 use Rattle.std.proofs.lemmas.List.{take_at, drop_at, take-take, drop-drop, drop-take, length-take-le, length-drop}
 use Rattle.std.proofs.lemmas.Bool.Decides.{nat_tests}
-use Rattle.scale.specs.Meaning.{Meaning, read_price}
+use Rattle.scale.specs.Meaning.{Meaning}
 use Rattle.scale.specs.Pair.{pair}
 use Rattle.scale.specs.Levels.{little_endian, numbers, read_bytes}
 

@@ -7,11 +7,11 @@
 --   Laws          what every scale owes
 --   order         how two values stand to each other
 --   read_price    the price that a list of numbers writes, or none
-use Rattle.std.specs.Prelude.{◌≡◌, ℕ, ◌≤◌, Bool, true, false, cond, not, ◌&&◌, T, ◌⊎◌, List, [], ◌∷◌, length, ℤ, pos, negsuc, ◌≤ℤ◌, Some, None, Option, FitsSigned, ◌==◌, nat_le}
+use Rattle.std.specs.Prelude.{◌≡◌, ℕ, ◌≤◌, Bool, cond, ◌&&◌, T, ◌⊎◌, List, [], ◌∷◌, length, ℤ, pos, negsuc, ◌≤ℤ◌, Some, None, Option, FitsSigned, ◌==◌, nat_le}
 use Rattle.std.specs.declared.cmp.Ordering.TheVariants.{Less, Equal, Greater}
 use Rattle.std.specs.declared.cmp.Ordering.{Ordering}
 use Rattle.std.specs.Int.{w64}
-use Rattle.std.specs.List.{AllByRecursion as All}
+use Rattle.std.specs.List.{AllByRecursion}
 
 -- the data of a scale
 pub record Meaning : Type 1 where
@@ -68,14 +68,14 @@ pub record Laws (m : Meaning) : Type 0 where
   pub less_total : (x y : m.Value) → (x ≡ y) ⊎ (T (m.less x y) ⊎ T (m.less y x))
   pub less_plus : (x y z : m.Value) → T (m.less x y) → T (m.less (m.plus x z) (m.plus y z))
   -- the range holds every sum of at most four unit costs or their opposites
-  pub sums_in_range : (vs : List m.Value) → All (SignedCost m) vs → length vs ≤ 4 → T (m.in_range (sum m vs))
+  pub sums_in_range : (vs : List m.Value) → AllByRecursion (SignedCost m) vs → length vs ≤ 4 → T (m.in_range (sum m vs))
   -- at most 16 levels, or 17 where the pair is too large to be a scale
   pub few_levels : m.levels ≤ 17
   -- a price in range has exactly one list of 64-bit signed numbers
   pub written_count : m.levels ≤ 16 → (v : m.Value) → T (m.in_range v) → length (m.written v) ≡ m.levels
-  pub written_fits : m.levels ≤ 16 → (v : m.Value) → T (m.in_range v) → All (FitsSigned w64) (m.written v)
+  pub written_fits : m.levels ≤ 16 → (v : m.Value) → T (m.in_range v) → AllByRecursion (FitsSigned w64) (m.written v)
   pub value_written : m.levels ≤ 16 → (v : m.Value) → T (m.in_range v) → m.value (m.written v) ≡ v
-  pub written_value : m.levels ≤ 16 → (ns : List ℤ) → length ns ≡ m.levels → All (FitsSigned w64) ns → T (m.in_range (m.value ns)) → m.written (m.value ns) ≡ ns
+  pub written_value : m.levels ≤ 16 → (ns : List ℤ) → length ns ≡ m.levels → AllByRecursion (FitsSigned w64) ns → T (m.in_range (m.value ns)) → m.written (m.value ns) ≡ ns
 
 -- how x stands to y
 abbrev pub order : (m : Meaning) → m.Value → m.Value → Ordering

@@ -3,7 +3,7 @@
 --   pair           the pair of any two scales
 --   activation     satisfaction, then volume, then money
 --   netting        satisfaction alone
-use Rattle.std.specs.Prelude.{ℕ, ◌+◌, min, Bool, true, false, not, ◌&&◌, ◌||◌, List, ◌++◌, take, drop}
+use Rattle.std.specs.Prelude.{◌+◌, min, not, ◌&&◌, ◌||◌, ◌++◌, take, drop}
 use Rattle.scale.specs.Meaning.{Meaning}
 use Rattle.scale.specs.Single.{satisfaction, volume, money}
 

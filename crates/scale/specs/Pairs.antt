@@ -3,10 +3,10 @@
 --   Part           f takes a scale to a part of it: unit costs to unit costs, and sums to sums
 --   Below          the first parts decide, and the second ones where the firsts are equal
 --   pair_laws      the laws of the pair
-use Rattle.std.specs.Prelude.{◌≡◌, ℕ, suc, ◌+◌, ◌≤◌, min, Bool, true, false, not, ◌&&◌, ◌||◌, T, ◌⊎◌, List, [], ◌∷◌, ◌++◌, map, length, take, drop, ℤ, FitsSigned, refl}
+use Rattle.std.specs.Prelude.{◌≡◌, suc, ◌+◌, ◌≤◌, min, Bool, true, false, not, ◌&&◌, ◌||◌, T, ◌⊎◌, List, [], ◌∷◌, ◌++◌, map, length, take, drop, ℤ, FitsSigned, refl}
 use Rattle.std.proofs.Common.{sym, ◌∙◌, ap, subst, inl, inr, arith, length-append}
 use Rattle.std.specs.Int.{w64}
-use Rattle.std.specs.List.{AllByRecursion as All}
+use Rattle.std.specs.List.{AllByRecursion}
 use Rattle.std.proofs.lemmas.List.{take_at, drop_at, take-append-drop, length-take-le, length-drop}
 use Rattle.std.proofs.ByRecursion.{All-append, All-take, All-drop}
 use Rattle.scale.specs.Meaning.{Meaning, Laws, UnitCost, SignedCost, sum}
@@ -33,7 +33,7 @@ module _ (m n : Meaning) (f : m.Value → n.Value) (part : Part m n f) where
   signed_part _ (cost v h) = cost (f v) (unit_part v h)
   signed_part _ (gain v h) = subst (SignedCost n) (sym (part.opposites v)) (gain (f v) (unit_part v h))
 
-  signed_parts : (vs : List m.Value) → All (SignedCost m) vs → All (SignedCost n) (map f vs)
+  signed_parts : (vs : List m.Value) → AllByRecursion (SignedCost m) vs → AllByRecursion (SignedCost n) (map f vs)
   signed_parts [] h = tt
   signed_parts (v ∷ vs) h = (signed_part v h.0, signed_parts vs h.1)
 
@@ -45,7 +45,7 @@ module _ (m n : Meaning) (f : m.Value → n.Value) (part : Part m n f) where
   length_part [] = refl
   length_part (v ∷ vs) = ap suc (length_part vs)
 
-  in_range_part : Laws n → (vs : List m.Value) → All (SignedCost m) vs → length vs ≤ 4 → T (n.in_range (f (sum m vs)))
+  in_range_part : Laws n → (vs : List m.Value) → AllByRecursion (SignedCost m) vs → length vs ≤ 4 → T (n.in_range (f (sum m vs)))
   in_range_part laws vs h few =
       let k : length (map f vs) ≤ 4 = rw length_part few in
       subst (λ v. T (n.in_range v)) (sym (sum_part vs)) (laws.sums_in_range (map f vs) (signed_parts vs h) k)
@@ -139,7 +139,7 @@ module _ (a b : Meaning) (la : Laws a) (lb : Laws b) where
         let f = ap b.value (drop_at (a.written v.0) (b.written v.1) a.levels p) ∙ lb.value_written (few_second h) v.1 (second_of (a.in_range v.0) _ r) in
         λ i. (e i, f i)
 
-    forth : (ns : List ℤ) → length ns ≡ (pair a b).levels → All (FitsSigned w64) ns → T ((pair a b).in_range ((pair a b).value ns)) → (pair a b).written ((pair a b).value ns) ≡ ns
+    forth : (ns : List ℤ) → length ns ≡ (pair a b).levels → AllByRecursion (FitsSigned w64) ns → T ((pair a b).in_range ((pair a b).value ns)) → (pair a b).written ((pair a b).value ns) ≡ ns
     forth ns l fits r =
         let room : a.levels ≤ length ns = omega (arith, all_levels h) in
         let p : length (take a.levels ns) ≡ a.levels = length-take-le a.levels ns room in

@@ -4,7 +4,7 @@
 --   satisfaction     a satisfied kilowatt costs -1, a bid nothing; prices from -8 to 8; bids take no part
 --   volume           an activated kilowatt costs 1, satisfaction nothing; prices from -8 to 8; bids take part
 --   money            an up bid costs its price, a down bid the opposite, satisfaction nothing; prices from -79,999,200 to 79,999,200; bids take part
-use Rattle.std.specs.Prelude.{ℕ, Bool, true, false, ◌&&◌, List, [], ◌∷◌, ℤ, pos, negsuc, ◌+ℤ◌, neg_ℤ, int_le, slice_index_or}
+use Rattle.std.specs.Prelude.{ℕ, Bool, true, false, ◌&&◌, [], ◌∷◌, ℤ, pos, negsuc, ◌+ℤ◌, neg_ℤ, int_le, slice_index_or}
 use Rattle.std.specs.Int.Signed.{lt_z}
 use Rattle.scale.specs.Meaning.{Meaning}
 

@@ -3,14 +3,14 @@
 --   Within n v     v lies from -n to n
 --   Bounded        the unit costs have at most the size n
 --   single_laws    a single scale keeps the laws, where four times that size is in its range, and its range fits a level
-use Rattle.std.specs.Prelude.{◌≡◌, ℕ, zero, suc, ◌+◌, ◌*◌, ◌^◌, ◌<◌, ◌≤◌, Bool, true, false, T, ◌⊎◌, List, [], ◌∷◌, length, ℤ, pos, negsuc, ◌+ℤ◌, neg_ℤ, ◌≤ℤ◌, ◌<ℤ◌, FitsSigned, ◌≢◌, int_le, int_lt, slice_index_or, refl}
-use Rattle.std.proofs.Common.{ap, inl, inr, arith, mul-le-mul_left}
+use Rattle.std.specs.Prelude.{◌≡◌, ℕ, suc, ◌*◌, ◌^◌, ◌<◌, ◌≤◌, Bool, T, ◌⊎◌, List, [], ◌∷◌, length, ℤ, pos, ◌+ℤ◌, neg_ℤ, ◌≤ℤ◌, ◌<ℤ◌, FitsSigned, ◌≢◌, int_le, int_lt, slice_index_or, refl}
+use Rattle.std.proofs.Common.{inl, inr, arith, mul-le-mul_left}
 use Rattle.std.proofs.Math.IntN.{+ℤ_comm, +ℤ_assoc, +ℤ_idl, +ℤ_invr}
 use Rattle.std.specs.Int.Signed.{le_z_yes, lt_z_yes, <ℤ_irrefl}
 use Rattle.std.specs.Int.{w64}
-use Rattle.std.specs.List.{AllByRecursion as All}
+use Rattle.std.specs.List.{AllByRecursion}
 use Rattle.std.proofs.lemmas.Int.{ints, by_lt_z}
-use Rattle.scale.specs.Meaning.{Meaning, Laws, UnitCost, SignedCost, BidPrice, sum}
+use Rattle.scale.specs.Meaning.{Laws, UnitCost, SignedCost, BidPrice, sum}
 use Rattle.scale.specs.Meaning.UnitCost.{of_satisfied, of_up, of_down}
 use Rattle.scale.specs.Meaning.SignedCost.{cost, gain}
 use Rattle.scale.specs.Single.{single}
@@ -63,14 +63,14 @@ module _ (satisfied : ℤ) (up down : ℤ → ℤ) (most n : ℕ) (bids : Bool) 
       let w = of_unit v h in
       record { least = omega (arith, ints); most = omega (arith, ints) }
 
-  of_sum : (vs : List ℤ) → All (SignedCost (single satisfied up down most bids)) vs → Within (n * length vs) (sum (single satisfied up down most bids) vs)
+  of_sum : (vs : List ℤ) → AllByRecursion (SignedCost (single satisfied up down most bids)) vs → Within (n * length vs) (sum (single satisfied up down most bids) vs)
   of_sum [] h = record { least = omega (arith, ints); most = omega (arith, ints) }
   of_sum (v ∷ vs) h =
       let first = of_signed v h.0 in
       let rest = of_sum vs h.1 in
       record { least = omega (arith, ints); most = omega (arith, ints) }
 
-  in_range : 4 * n ≤ most → (vs : List ℤ) → All (SignedCost (single satisfied up down most bids)) vs → length vs ≤ 4 → T ((single satisfied up down most bids).in_range (sum (single satisfied up down most bids) vs))
+  in_range : 4 * n ≤ most → (vs : List ℤ) → AllByRecursion (SignedCost (single satisfied up down most bids)) vs → length vs ≤ 4 → T ((single satisfied up down most bids).in_range (sum (single satisfied up down most bids) vs))
   in_range wide vs h few =
       let w = of_sum vs h in
       let room : n * length vs ≤ n * 4 = mul-le-mul_left n few in
@@ -78,7 +78,7 @@ module _ (satisfied : ℤ) (up down : ℤ → ℤ) (most n : ℕ) (bids : Bool) 
       let high : sum (single satisfied up down most bids) vs ≤ℤ pos most = omega (arith, ints) in
       both _ _ low.le high.le
 
-  fits_level : most < 2 ^ 63 → (v : ℤ) → T ((single satisfied up down most bids).in_range v) → All (FitsSigned w64) (v ∷ [])
+  fits_level : most < 2 ^ 63 → (v : ℤ) → T ((single satisfied up down most bids).in_range v) → AllByRecursion (FitsSigned w64) (v ∷ [])
   fits_level small v h =
       let low : neg_ℤ (pos most) ≤ℤ v = le_z_yes (first_of (int_le (neg_ℤ (pos most)) v) (int_le v (pos most)) h) in
       let high : v ≤ℤ pos most = le_z_yes (second_of (int_le (neg_ℤ (pos most)) v) (int_le v (pos most)) h) in

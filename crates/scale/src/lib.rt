@@ -1,4 +1,6 @@
 // Scales of cost: the kinds of cost by which one selection beats another.
+#![tactic(auto)]
+
 mod level;
 mod money;
 mod pair;

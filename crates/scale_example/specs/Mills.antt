@@ -1,7 +1,7 @@
 -- What the scale of this crate means.
 --
 --   mills    an up bid costs ten times its price, a down bid the opposite, satisfaction nothing; prices from -799,992,000 to 799,992,000; bids take part
-use Rattle.std.specs.Prelude.{true, pos, _*ℤ_, neg_ℤ}
+use Rattle.std.specs.Prelude.{true, pos, ◌*ℤ◌, neg_ℤ}
 use Rattle.scale.specs.Meaning.{Meaning}
 use Rattle.scale.specs.Single.{single}
 

@@ -1,8 +1,10 @@
 // An example of a scale of one's own: money in mills, tenths of a cent. docs/SCALES.md goes through it.
+#![tactic(auto)]
+
 ghost use Rattle.scale_example.specs.Mills.{mills};
 ghost use Rattle.std.proofs.Math.Bool;
 ghost use Rattle.std.proofs.Common.{lit≤, lit<};
-ghost use Rattle.std.specs.Prelude.{pos, _*ℤ_, neg_ℤ};
+ghost use Rattle.std.specs.Prelude.{pos, ◌*ℤ◌, neg_ℤ};
 ghost use Rattle.scale.specs.Singles.{within, single_laws};
 ghost use Rattle.scale_example.specs.MillsScaleLemmas.{of_up, of_down};
 

@@ -2,7 +2,9 @@
 use anyhow::anyhow;
 use foldureem::verdict;
 use std::alloc::{AllocError, Global};
+use std::fmt::Debug;
 use std::io::Write;
+use std::process::ExitCode;
 use std::{env, fs};
 
 const HELP: &str = "usage: verify [CASE PROPOSAL]
@@ -31,16 +33,32 @@ enum Task {
     Verify(String, String),
 }
 
-fn main(rt: HostRuntime) -> anyhow::Result<()> {
-    match asked(&rt) {
-        Ok(Task::Help) => say(&rt, HELP),
-        Ok(Task::Version) => say(&rt, VERSION),
-        Ok(Task::Verify(case, proposal)) => verify(&rt, case.as_str(), proposal.as_str()),
+fn main(rt: HostRuntime) -> ExitCode {
+    match run(&rt) {
+        Ok(()) => ExitCode::SUCCESS,
+        Err(_) => ExitCode::FAILURE,
+    }
+}
+
+// Does what is asked. Each trouble is told where it is met, and a refusal is on standard output.
+fn run(rt: &HostRuntime) -> anyhow::Result<()> {
+    match asked(rt) {
+        Ok(Task::Help) => report(rt, say(rt, HELP)),
+        Ok(Task::Version) => report(rt, say(rt, VERSION)),
+        Ok(Task::Verify(case, proposal)) => verify(rt, case.as_str(), proposal.as_str()),
         Err(trouble) => {
             let _ = eprintln!(rt; "verify: {trouble}");
             Err(trouble)
         }
     }
+}
+
+// Tells of an error that no message has told of yet.
+fn report<T, E: Debug>(rt: &HostRuntime, answer: Result<T, E>) -> Result<T, E> {
+    if let Err(trouble) = &answer {
+        let _ = eprintln!(rt; "Error: {trouble:?}");
+    }
+    answer
 }
 
 // Two paths, one flag, or nothing.
@@ -75,22 +93,25 @@ fn say(rt: &HostRuntime, text: &str) -> anyhow::Result<()> {
 fn verify(rt: &HostRuntime, case: &str, proposal: &str) -> anyhow::Result<()> {
     let case = read(rt, case)?;
     let proposal = read(rt, proposal)?;
-    let mut listing = room(rt.alloc())?;
-    match verdict(
-        rt.alloc(),
-        case.as_slice(),
-        proposal.as_slice(),
-        listing.as_mut_slice(),
+    let mut listing = report(rt, room(rt.alloc()))?;
+    match report(
+        rt,
+        verdict(
+            rt.alloc(),
+            case.as_slice(),
+            proposal.as_slice(),
+            listing.as_mut_slice(),
+        ),
     )? {
         Ok(length) => {
             listing.truncate(length);
-            release(rt, listing.as_slice())
+            report(rt, release(rt, listing.as_slice()))
         }
         Err(refusal) => {
             let number = refusal.number();
             let layer = refusal.layer();
             let place = refusal.place();
-            (println!(rt; "refused {number} {layer} {place}"))?;
+            report(rt, println!(rt; "refused {number} {layer} {place}"))?;
             Err(anyhow!("refused"))
         }
     }

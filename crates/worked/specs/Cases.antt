@@ -10,7 +10,7 @@
 --   rows             the table
 --   WorkedCases     in every row, the answer by the rules is the expected one
 use Rattle.std.specs.Prelude.{◌≡◌, ℕ, List, [], ◌∷◌, ℤ, pos, neg_ℤ, Ok, Err, Result}
-use Rattle.std.specs.List.{AllByRecursion as All}
+use Rattle.std.specs.List.{AllByRecursion}
 use Rattle.scale.specs.Meaning.{Meaning}
 use Rattle.scale.specs.Pair.{activation, netting}
 use Rattle.market.specs.declared.trade.Direction.TheVariants.{Up, Down}
@@ -149,4 +149,4 @@ abbrev pub Holds : Row → Type 0
 Holds r = answer_of r ≡ r.expected
 
 abbrev pub WorkedCases : Type 0
-WorkedCases = All Holds rows
+WorkedCases = AllByRecursion Holds rows

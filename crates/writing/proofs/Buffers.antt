@@ -1,21 +1,18 @@
 -- A case and a proposal, put into a buffer table by table. Assumes nothing.
-use Rattle.std.proofs.Common.{◌≡◌, ℕ, ◌+◌, ◌-◌, ◌*◌, ◌^◌, ◌<◌, ◌≤◌, min, Bool, true, false, cond, leb, List, [], ◌∷◌, ◌++◌, length, take, drop, ℤ, Ok, Err, Result, sym, refl, ap, ◌∙◌, subst, append_assoc, arith, length-append, le-leb, leb-true}
+use Rattle.std.proofs.Common.{◌≡◌, ℕ, ◌+◌, ◌-◌, ◌*◌, ◌^◌, ◌≤◌, min, true, cond, leb, List, [], ◌∷◌, ◌++◌, length, drop, ℤ, Ok, Err, sym, refl, ap, ◌∙◌, append_assoc, arith, length-append, le-leb, leb-true}
 use mathlib.Core.Bool.{Bool-set}
 use mathlib.Core.Logic.{∥∥₁_elim}
-use borrow.Author.Tests.{lt-leb}
-use Rattle.market.specs.declared.refusal.Refusal.{Refusal}
 use Rattle.market.specs.declared.refusal.Refusal.TheVariants.{Room}
 use Rattle.market.specs.declared.trade.Border.{Border}
 use Rattle.market.specs.declared.trade.Bid.{Bid}
 use Rattle.market.specs.Cases.{Case, Valid, case_of}
-use Rattle.market.specs.Selections.{Selection}
 use Rattle.records.specs.Bytes.{bytes_of, placed}
 use Rattle.layout.specs.CaseBytes.{each, demand_bytes, border_bytes, bid_bytes, case_header, written, case_size}
 use Rattle.layout.specs.ProposalBytes.{amount_bytes, level_bytes, proposal_header}
 use Rattle.layout.specs.Writing.{case_write_answer, case_write_after, counts_in, proposal_size, proposal_written, proposal_write_answer, proposal_write_after}
 use Rattle.layout.proofs.Proposals.{selection_from}
 use Rattle.layout.proofs.RoundTrips.{length_each}
-use Rattle.writing.proofs.Placed.{placed_more, length_placed}
+use Rattle.writing.proofs.Placed.{placed_more}
 
 -- one run more, behind what is there
 put_then : (front more out mid late : List ℕ) (n : ℕ) → mid ≡ placed 0 front out → late ≡ placed n more mid → length front ≡ n → n ≤ length out

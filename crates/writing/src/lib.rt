@@ -1,4 +1,6 @@
 // A case and a proposal, written into a buffer.
+#![tactic(auto)]
+
 mod write;
 mod written;
 

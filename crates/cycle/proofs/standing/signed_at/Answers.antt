@@ -1,4 +1,4 @@
-use Rattle.std.proofs.Common.{pos, sym, ap}
+use Rattle.std.proofs.Common.{pos, sym}
 use Rattle.std.proofs.lemmas.List.{get_or_past}
 use Rattle.cycle.proofs.standing.signed_at.Goals as goal
 

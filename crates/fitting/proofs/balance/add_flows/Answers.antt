@@ -1,4 +1,4 @@
-use Rattle.std.proofs.Common.{◌≡◌, ◌+◌, ◌<◌, ◌≤◌, List, length, get_or, set, ℤ, pos, ◌+ℤ◌, ◌-ℤ◌, neg_ℤ, vec_items, sym, refl, ap, ◌∙◌, subst, arith, w64, SFits, to_z, of_z, rules}
+use Rattle.std.proofs.Common.{◌+◌, List, length, get_or, set, ℤ, pos, ◌+ℤ◌, ◌-ℤ◌, vec_items, sym, refl, ap, subst, arith, w64, SFits, to_z, of_z, rules}
 use Rattle.layout.specs.Sections.{selection_held}
 use Rattle.fitting.proofs.Sheets.{Flowing, Flowed, flowed, flowing_none, flowing_all, small_flow, inflow_is, outflow_is}
 use Rattle.fitting.proofs.balance.add_flows.Goals as goal

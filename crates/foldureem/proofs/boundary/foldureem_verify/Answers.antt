@@ -1,4 +1,4 @@
-use Rattle.std.proofs.Common.{◌≡◌, sym, ap, ◌∙◌}
+use Rattle.std.proofs.Common.{sym, ap, ◌∙◌}
 use Rattle.foldureem.specs.declared.told.FoldureemVerdict.{FoldureemVerdict}
 use Rattle.foldureem.proofs.Best.{answered_told, told_taken}
 use Rattle.foldureem.proofs.boundary.foldureem_verify.Goals as goal

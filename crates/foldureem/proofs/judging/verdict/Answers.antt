@@ -1,4 +1,4 @@
-use Rattle.std.proofs.Common.{◌≡◌, ℕ, true, false, List, IfOk}
+use Rattle.std.proofs.Common.{◌≡◌, true, false, IfOk}
 use Rattle.scale.specs.Meaning.{Meaning}
 use Rattle.foldureem.specs.Verdicts.{answer_for, buffer_after, if_made, NothingBeats}
 use Rattle.foldureem.proofs.Released.{on_scale}

@@ -1,4 +1,4 @@
-use Rattle.std.proofs.Common.{◌≡◌, sym, ◌∙◌}
+use Rattle.std.proofs.Common.{sym, ◌∙◌}
 use Rattle.cycle.specs.View.{closed_view}
 use Rattle.foldureem.proofs.Best.{taken_unbeaten, made_always}
 use Rattle.foldureem.proofs.Released.{release_answered, release_put}

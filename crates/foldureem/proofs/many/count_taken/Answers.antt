@@ -1,6 +1,6 @@
-use Rattle.std.proofs.Common.{◌≡◌, ℕ, ◌+◌, ◌≤◌, true, false, List, length, get_or, ap, ◌∙◌, arith, rules}
+use Rattle.std.proofs.Common.{ℕ, ◌+◌, ◌≤◌, true, false, List, length, get_or, ap, ◌∙◌, arith, rules}
 use Rattle.foldureem.specs.Told.{cut, is_taken, taken_among}
-use Rattle.foldureem.proofs.Pairs.{Counted, counted}
+use Rattle.foldureem.proofs.Pairs.{counted}
 use Rattle.foldureem.proofs.many.count_taken.Goals as goal
 
 pub loop-rest-preserved-then-takes : goal.loop-rest-preserved-then-takes

@@ -1,6 +1,6 @@
-use Rattle.std.proofs.Common.{ℕ, ◌+◌, ◌<◌, length, vec_items, vec_len, vec_capacity, sym, ◌∙◌, subst, arith}
+use Rattle.std.proofs.Common.{ℕ, ◌+◌, vec_items, vec_capacity, sym, subst, arith}
 use Rattle.cycle.specs.View.{view}
-use Rattle.history.proofs.Replayed.{Replaying, Replayed, replaying_none, replaying_more, replaying_all}
+use Rattle.history.proofs.Replayed.{Replaying, replaying_none, replaying_more, replaying_all}
 use Rattle.history.proofs.replay.replay_calls.Goals as goal
 
 pub loop-call-init : goal.loop-call-init

@@ -1,10 +1,10 @@
-use Rattle.std.proofs.Common.{◌≡◌, ℕ, ◌*◌, length, take, drop, sym, refl, ap, ◌∙◌, arith, rules}
-use Rattle.layout.specs.ProposalBytes.{proposal_end, satisfied_part}
+use Rattle.std.proofs.Common.{◌≡◌, ◌*◌, length, take, drop, sym, refl, ap, ◌∙◌, arith, rules}
+use Rattle.layout.specs.ProposalBytes.{proposal_end}
 use Rattle.layout.proofs.Proposals.{taken_length, flows_split, activated_split, prices_split}
 use Rattle.layout.proofs.proposal.read_proposal.Goals as goal
 
-pub overflow-mul-counts : goal.overflow-mul-counts
-overflow-mul-counts c =
+pub overflow_mul-counts : goal.overflow_mul-counts
+overflow_mul-counts c =
     let end : length c.args.bytes.now ≡ proposal_end c.args.counts c.args.levels = taken_length _ _ _ (sym c.in_ok-check_proposal.ensures) in
     search rules
 
@@ -13,8 +13,8 @@ split_at-requires-2 c =
     let end : length c.args.bytes.now ≡ proposal_end c.args.counts c.args.levels = taken_length _ _ _ (sym c.in_ok-check_proposal.ensures) in
     omega (arith, c.split_at.ensures.back_len)
 
-pub overflow-mul-counts-2 : goal.overflow-mul-counts-2
-overflow-mul-counts-2 c =
+pub overflow_mul-counts-2 : goal.overflow_mul-counts-2
+overflow_mul-counts-2 c =
     let end : length c.args.bytes.now ≡ proposal_end c.args.counts c.args.levels = taken_length _ _ _ (sym c.in_ok-check_proposal.ensures) in
     search rules
 
@@ -23,8 +23,8 @@ split_at-requires-3 c =
     let end : length c.args.bytes.now ≡ proposal_end c.args.counts c.args.levels = taken_length _ _ _ (sym c.in_ok-check_proposal.ensures) in
     omega (arith, c.split_at.ensures.back_len, c.split_at-2.ensures.back_len)
 
-pub overflow-mul-counts-3 : goal.overflow-mul-counts-3
-overflow-mul-counts-3 c =
+pub overflow_mul-counts-3 : goal.overflow_mul-counts-3
+overflow_mul-counts-3 c =
     let end : length c.args.bytes.now ≡ proposal_end c.args.counts c.args.levels = taken_length _ _ _ (sym c.in_ok-check_proposal.ensures) in
     search rules
 

@@ -9,7 +9,7 @@ loop-k-preserved c =
     let xs = c.args.amounts.now in
     let k = c.loop-k.k in
     let i = c.loop-k.invariant in
-    let s = c.share-more-up.ensures in (
+    let s = c.share-more_up.ensures in (
       more _ _ _ _ _ _ i.0 s.up (both_more (sum_in if_up c.args.area) bs xs k _ c.loop-k-test.true c.requires.counts),
       more _ _ _ _ _ _ i.1 s.down (both_more (sum_in if_down c.args.area) bs xs k _ c.loop-k-test.true c.requires.counts),
       omega arith,

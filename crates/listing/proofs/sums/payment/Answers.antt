@@ -3,12 +3,12 @@ use Rattle.listing.specs.Figures.{payment}
 use Rattle.listing.proofs.Prices.{price_small, product_fits, product_is, product_small, opposite_fits, opposite_product_is, opposite_small, paid}
 use Rattle.listing.proofs.sums.payment.Goals as goal
 
-pub overflow-mul-price : goal.overflow-mul-price
-overflow-mul-price c =
+pub overflow_mul-price : goal.overflow_mul-price
+overflow_mul-price c =
     product_fits c.args.bid.price c.args.amount c.from.result c.from-2.result (price_small c.args.bid c.requires.price) c.requires.volume c.from.ensures c.from-2.ensures
 
-pub overflow-sub-result : goal.overflow-sub-result
-overflow-sub-result c =
+pub overflow_sub-result : goal.overflow_sub-result
+overflow_sub-result c =
     opposite_fits c.args.bid.price c.args.amount c.from.result c.from-2.result (price_small c.args.bid c.requires.price) c.requires.volume c.from.ensures c.from-2.ensures
 
 pub returns-in-Up : goal.returns-in-Up

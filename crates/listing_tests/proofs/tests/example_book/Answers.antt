@@ -4,8 +4,8 @@ use Rattle.listing.specs.Example.{example_case}
 use Rattle.listing.proofs.Worked.{valid_as}
 use Rattle.listing_tests.proofs.tests.example_book.Goals as goal
 
-pub invariant-of-result : goal.invariant-of-result
-invariant-of-result c =
+pub invariant_of-result-clause-valid : goal.invariant_of-result-clause-valid
+invariant_of-result-clause-valid c =
     let made : case_of (vec_items c.push_reserved-2.new.self) (vec_items c.push_reserved-3.new.self) (vec_items c.push_reserved-5.new.self) ≡ example_case =
     search rules in
-    (∣ valid_as _ made ∣₁, (search rules, tt))
+    ∣ valid_as _ made ∣₁

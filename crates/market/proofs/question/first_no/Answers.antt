@@ -1,4 +1,4 @@
-use Rattle.std.proofs.Common.{◌<◌, Some, None, arith, rules}
+use Rattle.std.proofs.Common.{Some, None, arith, rules}
 use Rattle.market.specs.First.{FirstNo}
 use Rattle.market.proofs.Firsts.{first_no_is}
 use Rattle.market.proofs.question.first_no.Goals as goal

@@ -2,8 +2,8 @@ use Rattle.std.proofs.Common.{length, arith, rules}
 use Rattle.records.proofs.Tables.{within, record_at_first}
 use Rattle.records.proofs.record.record_at.Goals as goal
 
-pub overflow-mul-size : goal.overflow-mul-size
-overflow-mul-size g c = let inside = within (length c.args.bytes.now) c.size-size.result c.args.place c.if-place-bytes.true in search rules
+pub overflow_mul-size : goal.overflow_mul-size
+overflow_mul-size g c = let inside = within (length c.args.bytes.now) c.size-size.result c.args.place c.if-place-bytes.true in search rules
 
 pub slice_bounds-first-count : goal.slice_bounds-first-count
 slice_bounds-first-count g c = let inside = within (length c.args.bytes.now) c.size-size.result c.args.place c.if-place-bytes.true in omega arith

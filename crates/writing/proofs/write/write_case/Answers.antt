@@ -1,16 +1,16 @@
-use Rattle.std.proofs.Common.{length, vec_items, sym, ap, ◌∙◌, arith}
+use Rattle.std.proofs.Common.{length, vec_items, ap, ◌∙◌, arith}
 use Rattle.market.specs.Held.{held}
 use Rattle.layout.specs.Writing.{case_write_answer, case_write_after}
 use Rattle.writing.proofs.Buffers.{few_held, case_same, case_put_answer, case_put_after}
 use Rattle.writing.proofs.write.write_case.Goals as goal
 
-pub overflow-add-bids-at : goal.overflow-add-bids-at
-overflow-add-bids-at c =
+pub overflow_add-bids_at : goal.overflow_add-bids_at
+overflow_add-bids_at c =
     let few = few_held (held c.args.book.now) c.args.book.now.valid in
     record { fits = omega (arith, ap length c.as_slice-demands.ensures.value, ap length c.as_slice-borders.ensures.value) }
 
-pub overflow-add-size : goal.overflow-add-size
-overflow-add-size c =
+pub overflow_add-size : goal.overflow_add-size
+overflow_add-size c =
     let few = few_held (held c.args.book.now) c.args.book.now.valid in
     record { fits = omega (arith, ap length c.as_slice-demands.ensures.value, ap length c.as_slice-borders.ensures.value, ap length c.as_slice-bids.ensures.value) }
 

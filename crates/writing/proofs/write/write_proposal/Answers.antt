@@ -1,5 +1,4 @@
-use Rattle.std.proofs.Common.{◌≡◌, ◌^◌, ◌≤◌, length, vec_items, sym, ap, ◌∙◌, arith}
-use Rattle.market.specs.Held.{selected}
+use Rattle.std.proofs.Common.{◌≡◌, ◌≤◌, length, vec_items, ap, ◌∙◌, arith}
 use Rattle.layout.specs.Writing.{proposal_size, proposal_write_answer, proposal_write_after}
 use Rattle.layout.proofs.Proposals.{selection_from, selection_same}
 use Rattle.writing.proofs.Buffers.{proposal_put_answer, proposal_put_after}

@@ -1,4 +1,4 @@
-use Rattle.std.proofs.Common.{◌≡◌, suc, ◌+◌, ◌*◌, ◌≤◌, length, sym, ap, ◌∙◌, arith, rules}
+use Rattle.std.proofs.Common.{length, sym, ◌∙◌, arith}
 use Rattle.writing.proofs.Placed.{place_within, place_end, place_more, placed_next, placed_last}
 use Rattle.writing.proofs.written.put_table.Goals as goal
 
@@ -7,8 +7,8 @@ put-requires g c =
     place_within g.T.Written.size c.loop-record.record-index (length c.args.table.now) c.args.at c.loop-record.place (length c.args.out.now) (length c.loop-record.out)
     c.loop-record.invariant.0 c.loop-record-test.true c.requires c.loop-record.auto.out
 
-pub overflow-add-place : goal.overflow-add-place
-overflow-add-place g c =
+pub overflow_add-place : goal.overflow_add-place
+overflow_add-place g c =
     let fits =
     place_within g.T.Written.size c.loop-record.record-index (length c.args.table.now) c.args.at c.loop-record.place (length c.args.out.now) (length c.loop-record.out)
     c.loop-record.invariant.0 c.loop-record-test.true c.requires c.loop-record.auto.out in

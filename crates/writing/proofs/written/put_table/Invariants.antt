@@ -1,4 +1,4 @@
-use Rattle.std.proofs.Common.{◌≡◌, ◌+◌, ◌*◌, length, drop}
+use Rattle.std.proofs.Common.{◌≡◌, ◌+◌, ◌*◌, drop}
 use Rattle.records.specs.Bytes.{placed}
 use Rattle.layout.specs.CaseBytes.{each}
 use Rattle.writing.proofs.written.put_table.Given as goal

@@ -1,1 +1,0 @@
-use Rattle.cycle.proofs.cycle.Cycle.load.Goals as goal

@@ -1,8 +1,7 @@
-use Rattle.std.proofs.Common.{◌≡◌, ℕ, ◌≤◌, Bool, true, cond, length, Some, Ok, Err, vec_items, Option, sym, refl, ap, ◌∙◌, subst}
+use Rattle.std.proofs.Common.{◌≡◌, Bool, cond, Some, Option, sym, refl, ap, ◌∙◌, subst}
 use mathlib.Core.Logic.{∥∥₁_elim}
 use native.Mathlib.Bridge.{le_prop}
 use Rattle.std.proofs.lemmas.Result.{err_from_is_err_and}
-use Rattle.scale.specs.Meaning.{Meaning}
 use Rattle.market.specs.Cases.{Case}
 use Rattle.market.specs.Held.{held, selected}
 use Rattle.market.specs.Selections.{Selection, WithinLimits}
@@ -23,8 +22,8 @@ returns-in_err-judge g c =
     let p = err_from_is_err_and c.from_residual-in_err-judge.result c.from_residual-in_err-judge.ensures.1 in
     rw (p.1, p.2) (record { answer = e; after = refl })
 
-pub invariant-of-self : goal.invariant-of-self
-invariant-of-self g c =
+pub invariant_of-self : goal.invariant_of-self
+invariant_of-self g c =
     let t : Taken g.S.Scale.meaning (held c.args.self.now.holdings.book) c.args.bytes.now c.in_ok-proposal.proposal =
     submit_taken g.S.Scale.meaning (held c.args.self.now.holdings.book) c.args.bytes.now c.in_ok-proposal.proposal
     c.counts-counts.result c.levels.result
@@ -34,10 +33,10 @@ invariant-of-self g c =
     (∥∥₁_elim c.args.self.now.holdings.book.valid le_prop (λ v. v.few_bids)) c.in_ok-judge.ensures.answer in
     let kept : selected c.keep.new.amounts ≡ selection_held c.in_ok-proposal.proposal =
     c.keep.ensures.after ∙ ap (λ (b : Bool). cond b (selection_held c.in_ok-proposal.proposal) (selected c.args.self.now.holdings.amounts)) (c.keep.ensures.answer ∙ t.enough) in
-    ((λ _. ∣ subst (λ (s : Selection). WithinLimits (held c.args.self.now.holdings.book) s) (sym kept) t.within ∣₁), tt)
+    record { within = λ _. ∣ subst (λ (s : Selection). WithinLimits (held c.args.self.now.holdings.book) s) (sym kept) t.within ∣₁ }
 
-pub invariant-of-self-2 : goal.invariant-of-self-2
-invariant-of-self-2 g c =
+pub invariant_of-self-2 : goal.invariant_of-self-2
+invariant_of-self-2 g c =
     let t : Taken g.S.Scale.meaning (held c.args.self.now.holdings.book) c.args.bytes.now c.in_ok-proposal.proposal =
     submit_taken g.S.Scale.meaning (held c.args.self.now.holdings.book) c.args.bytes.now c.in_ok-proposal.proposal
     c.counts-counts.result c.levels.result
@@ -47,7 +46,7 @@ invariant-of-self-2 g c =
     (∥∥₁_elim c.args.self.now.holdings.book.valid le_prop (λ v. v.few_bids)) c.in_ok-judge.ensures.answer in
     let kept : selected c.keep.new.amounts ≡ selection_held c.in_ok-proposal.proposal =
     c.keep.ensures.after ∙ ap (λ (b : Bool). cond b (selection_held c.in_ok-proposal.proposal) (selected c.args.self.now.holdings.amounts)) (c.keep.ensures.answer ∙ t.enough) in
-    (((λ _. ∣ subst (λ (s : Selection). WithinLimits (held c.args.self.now.holdings.book) s) (sym kept) t.within ∣₁), tt), tt)
+    record { within = λ _. ∣ subst (λ (s : Selection). WithinLimits (held c.args.self.now.holdings.book) s) (sym kept) t.within ∣₁ }
 
 pub returns : goal.returns
 returns g c =
