@@ -1,5 +1,6 @@
 // The two functions that C calls. Nothing checks a C declaration against them: foldureem.h is written by hand.
 #![tactic(auto)]
+
 ghost use Rattle.std.specs.Prelude.{◌≡◌};
 ghost use Rattle.foldureem.specs.Verdicts.{scale_for, NothingBeats};
 ghost use Rattle.foldureem.specs.Told.{Answered, Tallied};
