@@ -3,7 +3,7 @@ ghost use Rattle.std.specs.Prelude.{◌≡◌, ℕ, ◌<◌, List, length, take,
 ghost use Rattle.scale.specs.Levels.{little_endian};
 ghost use Rattle.records.specs.Records.{border_of, bid_of, raw_direction};
 ghost use Rattle.records.specs.Bytes.{signed_word, record_at};
-ghost use Rattle.std.proofs.Common.{rules};
+ghost use Rattle.std.proofs.Common.{lit<};
 
 use market::{Bid, Border, Direction};
 
@@ -41,7 +41,7 @@ impl Record for i32 {
 
     ghost reads = { signed_word };
 
-    ghost positive = { Prim.search rules };
+    ghost positive = { lit< tt };
 
     fn size() -> usize {
         4
@@ -61,7 +61,7 @@ impl Record for u32 {
 
     ghost reads = { little_endian };
 
-    ghost positive = { Prim.search rules };
+    ghost positive = { lit< tt };
 
     fn size() -> usize {
         4
@@ -81,7 +81,7 @@ impl Record for Border {
 
     ghost reads = { border_of };
 
-    ghost positive = { Prim.search rules };
+    ghost positive = { lit< tt };
 
     fn size() -> usize {
         12
@@ -106,7 +106,7 @@ impl Record for Bid {
 
     ghost reads = { bid_of };
 
-    ghost positive = { Prim.search rules };
+    ghost positive = { lit< tt };
 
     fn size() -> usize {
         12
@@ -140,7 +140,7 @@ impl Record for BidDirection {
 
     ghost reads = { raw_direction };
 
-    ghost positive = { Prim.search rules };
+    ghost positive = { lit< tt };
 
     fn size() -> usize {
         12

@@ -1,8 +1,7 @@
 // Money: one level on the whole numbers, in cents per MWh.
 ghost use Rattle.scale.specs.Single.{money};
-ghost use Rattle.std.proofs.Math.Bool;
 ghost use Rattle.std.proofs.Common.{lit≤, lit<};
-ghost use Rattle.std.specs.Prelude.{pos, neg_ℤ};
+ghost use Rattle.std.specs.Prelude.{true, pos, neg_ℤ};
 ghost use Rattle.scale.specs.Singles.{within, single_laws};
 ghost use Rattle.scale.specs.MoneyScaleLemmas.{opposite};
 
@@ -29,7 +28,7 @@ impl Scale for Money {
 
     ghost weighs = { λ v. v };
 
-    ghost lawful = { single_laws (pos 0) (λ price. price) neg_ℤ 79999200 9999900 Bool.true
+    ghost lawful = { single_laws (pos 0) (λ price. price) neg_ℤ 79999200 9999900 true
         (record { of_satisfied = within tt tt; of_up = λ _ h. record { least = h.least; most = h.most }; of_down = opposite })
         (lit≤ tt) (lit< tt) };
 

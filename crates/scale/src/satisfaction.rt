@@ -1,8 +1,7 @@
 // Satisfaction: one level on the whole numbers.
 ghost use Rattle.scale.specs.Single.{satisfaction};
-ghost use Rattle.std.proofs.Math.Bool;
 ghost use Rattle.std.proofs.Common.{lit≤, lit<};
-ghost use Rattle.std.specs.Prelude.{pos, negsuc};
+ghost use Rattle.std.specs.Prelude.{false, pos, negsuc};
 ghost use Rattle.scale.specs.Singles.{within, single_laws};
 
 use super::level::{compare_numbers, read_level};
@@ -27,7 +26,7 @@ impl Scale for Satisfaction {
 
     ghost weighs = { λ v. v };
 
-    ghost lawful = { single_laws (negsuc 0) (λ _. pos 0) (λ _. pos 0) 8 1 Bool.false
+    ghost lawful = { single_laws (negsuc 0) (λ _. pos 0) (λ _. pos 0) 8 1 false
         (record { of_satisfied = within tt tt; of_up = λ _ _. within tt tt; of_down = λ _ _. within tt tt }) (lit≤ tt) (lit< tt) };
 
     fn levels() -> usize {

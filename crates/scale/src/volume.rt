@@ -1,8 +1,7 @@
 // Volume: one level on the whole numbers.
 ghost use Rattle.scale.specs.Single.{volume};
-ghost use Rattle.std.proofs.Math.Bool;
 ghost use Rattle.std.proofs.Common.{lit≤, lit<};
-ghost use Rattle.std.specs.Prelude.{pos};
+ghost use Rattle.std.specs.Prelude.{true, pos};
 ghost use Rattle.scale.specs.Singles.{within, single_laws};
 
 use super::level::{compare_numbers, read_level};
@@ -27,7 +26,7 @@ impl Scale for Volume {
 
     ghost weighs = { λ v. v };
 
-    ghost lawful = { single_laws (pos 0) (λ _. pos 1) (λ _. pos 1) 8 1 Bool.true
+    ghost lawful = { single_laws (pos 0) (λ _. pos 1) (λ _. pos 1) 8 1 true
         (record { of_satisfied = within tt tt; of_up = λ _ _. within tt tt; of_down = λ _ _. within tt tt }) (lit≤ tt) (lit< tt) };
 
     fn levels() -> usize {

@@ -2,9 +2,8 @@
 #![tactic(auto)]
 
 ghost use Rattle.scale_example.specs.Mills.{mills};
-ghost use Rattle.std.proofs.Math.Bool;
 ghost use Rattle.std.proofs.Common.{lit≤, lit<};
-ghost use Rattle.std.specs.Prelude.{pos, ◌*ℤ◌, neg_ℤ};
+ghost use Rattle.std.specs.Prelude.{true, pos, ◌*ℤ◌, neg_ℤ};
 ghost use Rattle.scale.specs.Singles.{within, single_laws};
 ghost use Rattle.scale_example.specs.MillsScaleLemmas.{of_up, of_down};
 
@@ -30,7 +29,7 @@ impl Scale for Mills {
 
     ghost weighs = { λ v. v };
 
-    ghost lawful = { single_laws (pos 0) (λ price. pos 10 *ℤ price) (λ price. neg_ℤ (pos 10 *ℤ price)) 799992000 99999000 Bool.true
+    ghost lawful = { single_laws (pos 0) (λ price. pos 10 *ℤ price) (λ price. neg_ℤ (pos 10 *ℤ price)) 799992000 99999000 true
         (record { of_satisfied = within tt tt; of_up = of_up; of_down = of_down }) (lit≤ tt) (lit< tt) };
 
     fn levels() -> usize {

@@ -1,4 +1,6 @@
 // verify: reads a case and a proposal, judges the proposal, and writes the listing of what then stands, or why it is refused.
+#![tactic(auto)]
+
 use anyhow::anyhow;
 use foldureem::verdict;
 use std::alloc::{AllocError, Global};

@@ -1,10 +1,9 @@
 // Records put into a buffer, one after the other.
-ghost use Rattle.std.specs.Prelude.{◌≡◌, ℕ, ◌+◌, ◌*◌, ◌≤◌, List, length};
+ghost use Rattle.std.specs.Prelude.{refl, ◌≡◌, ℕ, ◌+◌, ◌*◌, ◌≤◌, List, length};
 ghost use Rattle.records.specs.Bytes.{bytes_of, placed};
 ghost use Rattle.records.specs.Records.{direction_number};
 ghost use Rattle.layout.specs.CaseBytes.{demand_bytes, border_bytes, bid_bytes, each};
 ghost use Rattle.layout.specs.ProposalBytes.{level_bytes};
-ghost use Rattle.std.proofs.Common.{rules};
 
 use market::{Bid, Border, Direction};
 
@@ -61,7 +60,7 @@ impl Written for usize {
 
     ghost writes = { bytes_of 4 };
 
-    ghost long = { Prim.search rules };
+    ghost long = { λ _. refl };
 
     fn size() -> usize {
         4
@@ -78,7 +77,7 @@ impl Written for i32 {
 
     ghost writes = { demand_bytes };
 
-    ghost long = { Prim.search rules };
+    ghost long = { λ _. refl };
 
     fn size() -> usize {
         4
@@ -94,7 +93,7 @@ impl Written for u32 {
 
     ghost writes = { bytes_of 4 };
 
-    ghost long = { Prim.search rules };
+    ghost long = { λ _. refl };
 
     fn size() -> usize {
         4
@@ -110,7 +109,7 @@ impl Written for i64 {
 
     ghost writes = { level_bytes };
 
-    ghost long = { Prim.search rules };
+    ghost long = { λ _. refl };
 
     fn size() -> usize {
         8
@@ -126,7 +125,7 @@ impl Written for Border {
 
     ghost writes = { border_bytes };
 
-    ghost long = { Prim.search rules };
+    ghost long = { λ _. refl };
 
     fn size() -> usize {
         12
@@ -146,7 +145,7 @@ impl Written for Bid {
 
     ghost writes = { bid_bytes };
 
-    ghost long = { Prim.search rules };
+    ghost long = { λ _. refl };
 
     fn size() -> usize {
         12
