@@ -6,7 +6,7 @@
 --   listed            the listing of the case in the bytes and the selection in the bytes
 --   answer_for        judge, then the length of the listing where it fits the buffer
 --   buffer_after      the buffer afterwards: the listing and what lay behind it, or the buffer as it was
---   NothingBeats     no selection within the limits of the case in the bytes is better than the one in the proposal
+--   NothingBeats      no selection within the limits of the case in the bytes is better than the one in the proposal
 --   if_made           what a call made, or what it leaves where it had no memory
 use Rattle.std.specs.Prelude.{ℕ, Bool, cond, ◌&&◌, List, length, Ok, Err, Result, ◌==◌, nat_le, slice_index}
 use Rattle.scale.specs.Meaning.{Meaning}

@@ -1,7 +1,7 @@
 -- The proposal of a selection and its prices.
 --
 --   Proposes        bytes are a proposal of a selection with prices, for a case and on a scale
---   OneProposal    a selection within the limits and prices in range make exactly one proposal
+--   OneProposal     a selection within the limits and prices in range make exactly one proposal
 use Rattle.std.specs.Prelude.{◌≡◌, ℕ, ◌<◌, ◌≤◌, T, List, length, Some, Ok, slice_index_or}
 use Rattle.std.specs.List.{AllByRecursion}
 use Rattle.scale.specs.Meaning.{Meaning}

@@ -2,7 +2,7 @@
 --
 --   selection_questions    those on a selection and its prices: amounts, balances, ranges of prices, and whether they fit
 --   submit_questions       those on the bytes of a proposal, then these
---   SubmitInOrder        a yes says that all pass, and a no names the first that fails, at its first place
+--   SubmitInOrder          a yes says that all pass, and a no names the first that fails, at its first place
 use Rattle.std.specs.Prelude.{◌≡◌, ℕ, ◌↔◌, List, [], ◌∷◌, ◌++◌, length, is_some, Ok, Err, Option}
 use Rattle.scale.specs.Meaning.{Meaning}
 use Rattle.market.specs.declared.refusal.Refusal.{Refusal}

@@ -1,7 +1,7 @@
 -- What prices prove of a selection, on any scale m.
 --
---   FittingIsUnbeaten                 a selection within the limits that some prices fit is unbeaten
---   UnbeatenHasPrices                 every unbeaten selection has prices, in range, that fit it
+--   FittingIsUnbeaten               a selection within the limits that some prices fit is unbeaten
+--   UnbeatenHasPrices               every unbeaten selection has prices, in range, that fit it
 --   UnbeatenExactlyWhenPricesFit    both: of the selections within the limits, the unbeaten ones are those that some prices fit
 use Rattle.std.specs.Prelude.{List}
 use Rattle.scale.specs.Meaning.{Meaning}

@@ -1,4 +1,4 @@
--- Numbers and tables in bytes. All numbers are little_endian, signed ones in two's complement.
+-- Numbers and tables in bytes. All numbers are little-endian, signed ones in two's complement.
 --
 --   part           the bytes of a given length at an offset
 --   word           header word k: the four bytes at 4 * k, as a number

@@ -1,4 +1,7 @@
 -- Two tests at once.
+--
+--   both                   both pass, where each does
+--   first_of, second_of    each passes, where both do
 use Rattle.std.specs.Prelude.{Bool, true, false, ◌&&◌, T}
 
 pub both : (x y : Bool) → T x → T y → T (x && y)

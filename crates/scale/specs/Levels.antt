@@ -1,4 +1,4 @@
--- The numbers that bytes write: little_endian, signed ones in two's complement; and the price that bytes write.
+-- The numbers that bytes write: little-endian, signed ones in two's complement; and the price that bytes write.
 --
 --   little_endian   the number that bytes write, the lowest byte first
 --   numbers         the first n 64-bit signed numbers in bytes

@@ -1,3 +1,6 @@
+-- What the law of the scale of money rests on.
+--
+--   opposite    the opposite of a bid's price lies within the bounds of a bid's price
 use Rattle.std.proofs.Common.{arith}
 use Rattle.std.specs.Prelude.{ℤ, neg_ℤ}
 use Rattle.std.proofs.lemmas.Int.{ints}

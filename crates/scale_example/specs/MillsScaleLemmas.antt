@@ -1,3 +1,6 @@
+-- What the law of this scale rests on.
+--
+--   of_up, of_down    the unit cost of an up bid, and of a down bid, has at most ten times the size of the largest price of a bid
 use Rattle.std.proofs.Common.{arith}
 use Rattle.std.specs.Prelude.{ℤ, pos, ◌*ℤ◌, neg_ℤ}
 use Rattle.std.proofs.lemmas.Int.{ints}

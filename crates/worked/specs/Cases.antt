@@ -8,7 +8,7 @@
 --   one_area         rows on a single area of demand 10, with no border and no bid, and nothing satisfied
 --   no_bids          rows on the two areas and their border without the bids, on the netting scale
 --   rows             the table
---   WorkedCases     in every row, the answer by the rules is the expected one
+--   WorkedCases      in every row, the answer by the rules is the expected one
 use Rattle.std.specs.Prelude.{◌≡◌, ℕ, List, [], ◌∷◌, ℤ, pos, neg_ℤ, Ok, Err, Result}
 use Rattle.std.specs.List.{AllByRecursion}
 use Rattle.scale.specs.Meaning.{Meaning}
