@@ -114,6 +114,8 @@ def main():
         print("also the kit's, so it stays:", n)
     for n in sorted(own & made):
         print("also a goal's:", n)
+    for path in glob.glob("crates/*/src/**/*.rt", recursive=True):
+        own |= set(re.findall(r"^ghost use .*\bas ([A-Za-z_][\w']*(?:-[\w']+)+)", read(path), re.M))
     own -= kits
     types = {n for n in own if TYPES.match(n) and n.split("-")[0] not in ("All", "Bool", "Fits")}
     names = {n: respelled(n, types) for n in own}

@@ -71,21 +71,17 @@ fn example_amounts(heap: Global) -> Result<Amounts, AllocError>
     })
 }
 
-fn shows_the_example(rt: &impl Abort, text: &mut Text, standing: &Settled) -> Result<(), Fail> {
-    text.render(standing);
-    assert!(rt; text.as_slice() == example_listing());
-    assert_eq!(rt; totals(standing), TOTALS);
-    Ok(())
-}
-
 #[test]
 fn renders_the_example(rt: HostRuntime) -> Result<(), Fail> {
-    let mut text = Text::reserve(rt.alloc())?;
     let book = example_book(rt.alloc())?;
     let amounts = example_amounts(rt.alloc())?;
+    let mut text = Text::reserve(rt.alloc())?;
     let standing = Settled {
         book: &book,
         amounts: &amounts,
     };
-    shows_the_example(&rt, &mut text, &standing)
+    text.render(&standing);
+    assert!(rt; text.as_slice() == example_listing());
+    assert_eq!(rt; totals(&standing), TOTALS);
+    Ok(())
 }
