@@ -1,2 +1,3 @@
 pub mod Judged
 pub mod Priced
+pub mod Candidates

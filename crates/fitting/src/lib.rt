@@ -3,6 +3,7 @@
 
 mod amounts;
 mod balance;
+mod candidate;
 mod fit;
 mod selection;
 mod verdict;

@@ -7,11 +7,11 @@ ghost use Rattle.layout.specs.CaseReaders.{case_read, direction_fine, case_held,
 ghost use Rattle.layout.specs.Sections.{forget};
 
 use super::questions::{
-    BidsInRange, BidsKnown, CountsAllowed, DemandsInRange, EndsKnown, LimitsInRange, OffsetsRight,
+    ask_counts, ask_demands, ask_ends, ask_limits, ask_offers, ask_offsets, ask_origins,
 };
 use super::reader::CaseReader;
 use super::table::fill;
-use market::{Book, Refusal, ask};
+use market::{Book, Refusal};
 use records::{CaseHeader, case_header};
 
 // The header of a case, or the first question on it that gets a no.
@@ -25,11 +25,8 @@ fn check_header(bytes: &[u8], bids: bool) -> Result<CaseHeader, Refusal>
     if header.kind != 1 {
         return Err(Refusal::Kind);
     }
-    ask(&CountsAllowed { bids, header })?;
-    ask(&OffsetsRight {
-        header,
-        length: bytes.len(),
-    })?;
+    ask_counts(header, bids)?;
+    ask_offsets(header, bytes.len())?;
     Ok(header)
 }
 
@@ -52,11 +49,11 @@ fn tables<'a>(bytes: &'a [u8], header: CaseHeader) -> CaseReader<'a>
 fn check_records(case: CaseReader) -> Result<(), Refusal>
     ensures { result ≡ records_answer (case_read case.entry) (direction_fine case.entry) }
 {
-    ask(&DemandsInRange(case))?;
-    ask(&EndsKnown(case))?;
-    ask(&LimitsInRange(case))?;
-    ask(&BidsKnown(case))?;
-    ask(&BidsInRange(case))
+    ask_demands(case)?;
+    ask_ends(case)?;
+    ask_limits(case)?;
+    ask_origins(case)?;
+    ask_offers(case)
 }
 
 // The case in the bytes, or the first question that gets a no. The bytes are exactly those that write the case.

@@ -1,11 +1,12 @@
 // The bytes of a proposal.
 ghost use Rattle.std.specs.Prelude.{◌≡◌, ◌+◌, ◌*◌, ◌/◌, ◌^◌, ◌<◌, ◌≤◌, length, pos, IfOk, if◌then◌else◌, slice_index, slice_index_or};
 ghost use Rattle.market.specs.declared.refusal.Refusal.TheVariants.{Count, Offset};
+ghost use Rattle.market.specs.First.{ask as asked};
 ghost use Rattle.layout.specs.ProposalBytes.{proposal_end, proposal_answer, count_right, section_right, starts, signed_amounts, unsigned_amounts, price_part};
 ghost use Rattle.layout.specs.Sections.{section_bytes, satisfied_bytes, flows_bytes, activated_bytes, prices_bytes, levels_of, selection_held, Holds, InPlace, forget, few, amounts_held};
 
 use super::table::fill;
-use market::{Amounts, Question, Refusal, ask};
+use market::{Amounts, Refusal, ask};
 use records::{ProposalHeader, proposal_header, record_at};
 
 // How many areas, borders and bids a case has.
@@ -45,72 +46,38 @@ struct Starts {
 }
 
 // Is each count that of the case, and are the levels those of the scale?
-#[derive(Drop)]
-struct CountsRight {
-    counts: Counts,
-    levels: usize,
-    header: ProposalHeader,
-}
-
-impl Question for CountsRight {
-    ghost places = { λ _. 9 };
-
-    ghost ok = { λ q. count_right q.counts q.levels q.header };
-
-    ghost no = { Count };
-
-    fn count(&self) -> usize {
-        9
-    }
-
-    fn passes(&self, place: usize) -> bool {
-        match place {
-            1 => self.header.areas as usize == self.counts.areas,
-            3 => self.header.borders as usize == self.counts.borders,
-            5 => self.header.bids as usize == self.counts.bids,
-            7 => self.levels <= 16 && self.header.levels as usize == self.levels,
+fn ask_counts(counts: Counts, levels: usize, header: ProposalHeader) -> Result<(), Refusal>
+    ensures { result ≡ asked (count_right counts levels header) 9 Count }
+{
+    ask(
+        9,
+        |word| match word {
+            1 => header.areas as usize == counts.areas,
+            3 => header.borders as usize == counts.borders,
+            5 => header.bids as usize == counts.bids,
+            7 => levels <= 16 && header.levels as usize == levels,
             _ => true,
-        }
-    }
-
-    fn refusal(place: usize) -> Refusal {
-        Refusal::Count(place)
-    }
+        },
+        Refusal::Count,
+    )
 }
 
 // Does each section begin where the one before it ends, and do the bytes end with the last?
-#[derive(Drop)]
-struct SectionsRight {
-    starts: Starts,
-    header: ProposalHeader,
-    length: usize,
-}
-
-impl Question for SectionsRight {
-    ghost places = { λ _. 10 };
-
-    ghost ok = { λ q. section_right q.starts q.header q.length };
-
-    ghost no = { Offset };
-
-    fn count(&self) -> usize {
-        10
-    }
-
-    fn passes(&self, place: usize) -> bool {
-        match place {
-            2 => self.header.satisfied == 36,
-            4 => self.header.flows as usize == self.starts.flows,
-            6 => self.header.activated as usize == self.starts.activated,
-            8 => self.header.prices as usize == self.starts.prices,
-            9 => self.length == self.starts.end,
+fn ask_sections(starts: Starts, header: ProposalHeader, length: usize) -> Result<(), Refusal>
+    ensures { result ≡ asked (section_right starts header length) 10 Offset }
+{
+    ask(
+        10,
+        |word| match word {
+            2 => header.satisfied == 36,
+            4 => header.flows as usize == starts.flows,
+            6 => header.activated as usize == starts.activated,
+            8 => header.prices as usize == starts.prices,
+            9 => length == starts.end,
             _ => true,
-        }
-    }
-
-    fn refusal(place: usize) -> Refusal {
-        Refusal::Offset(place)
-    }
+        },
+        Refusal::Offset,
+    )
 }
 
 // Where the sections of a proposal with these counts and levels stand.
@@ -139,16 +106,8 @@ fn check_proposal(bytes: &[u8], counts: Counts, levels: usize) -> Result<(), Ref
     if header.kind != 2 {
         return Err(Refusal::Kind);
     }
-    ask(&CountsRight {
-        counts,
-        levels,
-        header,
-    })?;
-    ask(&SectionsRight {
-        starts: section_starts(counts, levels),
-        header,
-        length: bytes.len(),
-    })
+    ask_counts(counts, levels, header)?;
+    ask_sections(section_starts(counts, levels), header, bytes.len())
 }
 
 // The proposal in the bytes, for a case with these counts and a scale with these levels; or the first question that gets a no.

@@ -30,3 +30,16 @@ refused_at refusal (Some i) = Err (refusal i)
 
 abbrev pub ask : {E : Type 0} → (ℕ → Bool) → ℕ → (ℕ → E) → Result (Unit {0}) E
 ask ok n refusal = refused_at refusal (first_no ok 0 n)
+
+-- the same of a test whose answers are a relation
+abbrev pub FirstFails : (ℕ → Bool → Type 0) → ℕ → Option ℕ → Type 0
+FirstFails answers n None = (k : ℕ) → k < n → answers k true
+FirstFails answers n (Some i) = (i < n) × answers i false × ((k : ℕ) → k < i → answers k true)
+
+-- a yes where each of n places passes, or what refuses at the first that does not
+abbrev pub Answers : {E : Type 0} → (ℕ → Bool → Type 0) → ℕ → (ℕ → E → Type 0) → Result (Unit {0}) E → Type 0
+Answers answers n refuses (Ok u) = (k : ℕ) → k < n → answers k true
+Answers answers n refuses (Err e) = (i : ℕ) × (i < n) × answers i false × refuses i e × ((k : ℕ) → k < i → answers k true)
+
+pub record Asked {E : Type 0} (answers : ℕ → Bool → Type 0) (n : ℕ) (refuses : ℕ → E → Type 0) (r : Result (Unit {0}) E) : Type 0 where
+  pub answer : Answers answers n refuses r

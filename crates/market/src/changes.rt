@@ -63,14 +63,14 @@ impl Book {
 }
 
 // From -20,000,000 to 20,000,000 kW.
-fn is_demand_in_range(demand: i32) -> bool
+pub fn is_demand_in_range(demand: i32) -> bool
     ensures { result ≡ demand_in_range demand }
 {
-    -20_000_000 <= demand && demand <= 20_000_000
+    (-20_000_000..=20_000_000).contains(&demand)
 }
 
 // At most 20,000,000 kW each way.
-fn is_limit_in_range(forward: u32, backward: u32) -> bool
+pub fn is_limit_in_range(forward: u32, backward: u32) -> bool
     ensures { result ≡ (nat_le forward 20000000 && nat_le backward 20000000) }
 {
     forward <= 20_000_000 && backward <= 20_000_000

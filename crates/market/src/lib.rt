@@ -9,7 +9,8 @@ mod settled;
 mod trade;
 
 pub use book::{Amounts, Book};
-pub use question::{Question, ask, first_no};
+pub use changes::{is_demand_in_range, is_limit_in_range};
+pub use question::{ask, first_no};
 pub use refusal::Refusal;
 pub use settled::Settled;
 pub use trade::{Bid, Border, Direction};

@@ -11,9 +11,9 @@ use Rattle.fitting.proofs.verdict.judge.Goals as goal
 
 pub returns : goal.returns
 returns g c = record {
-  answer = c.questions.ensures;
+  answer = c.ask_all.ensures;
   unbeaten = λ yes-it-is counts.
-      let e = sym c.questions.ensures ∙ yes-it-is in
+      let e = sym c.ask_all.ensures ∙ yes-it-is in
       record {
         within = within_from_passed g.S.Scale.meaning (held c.args.book.now) (selection_held c.args.proposal.now) (price_held g.S.Scale.meaning c.args.proposal.now) counts
             (passed_from_judged g.S.Scale.meaning (held c.args.book.now) (selection_held c.args.proposal.now) (price_held g.S.Scale.meaning c.args.proposal.now) e);

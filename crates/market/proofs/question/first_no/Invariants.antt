@@ -1,5 +1,5 @@
-use Rattle.std.proofs.Common.{◌≡◌, ℕ, ◌<◌, true}
+use Rattle.std.proofs.Common.{ℕ, ◌<◌, true}
 use Rattle.market.proofs.question.first_no.Given as goal
 
 abbrev pub invariant-loop-place : goal.invariant-loop-place
-invariant-loop-place g l = (k : ℕ) → k < l.place → g.Q.Question.ok l.question k ≡ true
+invariant-loop-place g l = (k : ℕ) → k < l.place → goal.F-post g l.passes k true
