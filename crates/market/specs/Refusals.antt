@@ -3,7 +3,8 @@
 --   answer     number, layer and place, case by case
 --   number, layer, place
 --              the three parts
-use Rattle.std.specs.Prelude.{ℕ}
+--   displayed  what it prints: the three parts in decimal, parted by spaces
+use Rattle.std.specs.Prelude.{ℕ, List, ◌++◌, codes, decimal}
 use Rattle.market.specs.declared.refusal.Refusal.{Refusal}
 use Rattle.market.specs.declared.refusal.Refusal.TheVariants.{Header, Kind, Count, Offset, Demand, Ends, Limits, Origin, Offer, Satisfied, Flow, Activated, Balance, Price, DemandFit, BorderFit, BidFit, Unknown, NothingStands, Room}
 
@@ -58,3 +59,6 @@ layer refusal = (answer refusal).1
 
 abbrev pub place : Refusal → ℕ
 place refusal = (answer refusal).2
+
+abbrev pub displayed : Refusal → List ℕ
+displayed refusal = decimal (number refusal) ++ (codes " " ++ (decimal (layer refusal) ++ (codes " " ++ decimal (place refusal))))

@@ -1,6 +1,9 @@
 // Why a call is refused: one case for each question, in the order in which the questions are asked.
-ghost use Rattle.std.specs.Prelude.{◌≡◌};
-ghost use Rattle.market.specs.Refusals.{number, layer, place};
+ghost use Rattle.std.specs.Prelude.{◌≡◌, Some};
+ghost use Rattle.market.specs.Refusals.{number, layer, place, displayed};
+
+use std::error::Error;
+use std::fmt;
 
 #[derive(Clone, Copy, PartialEq, Eq, Debug)]
 pub enum Refusal {
@@ -115,3 +118,14 @@ impl Refusal {
         }
     }
 }
+
+impl fmt::Display for Refusal {
+    ghost output = { λ refusal. Some (displayed refusal) };
+
+    fn fmt<W: fmt::Write>(&self, f: &mut fmt::Formatter<W>) -> fmt::Result {
+        let (number, layer, place) = (self.number(), self.layer(), self.place());
+        write!(f, "{number} {layer} {place}")
+    }
+}
+
+impl Error for Refusal {}
