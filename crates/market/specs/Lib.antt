@@ -1,4 +1,5 @@
 pub mod Cases
+pub mod Directions
 pub mod Selections
 pub mod Totals
 pub mod Prices

@@ -13,4 +13,4 @@ pub use changes::{is_demand_in_range, is_limit_in_range};
 pub use question::{ask, first_no};
 pub use refusal::Refusal;
 pub use settled::Settled;
-pub use trade::{Bid, Border, Direction};
+pub use trade::{Bid, Border, Direction, UnknownDirection};
