@@ -31,60 +31,73 @@ impl Candidate<'_, '_, '_> {
         )
     }
 
-    // Does each area's demand fit?
+    // Does an area's demand fit? A price out of range fits nothing.
+    fn does_demand_fit<S: Scale>(self, area: usize) -> bool
+        ensures { result ≡ demand_priced S.Scale.meaning (demand_at (case self.entry) area) (satisfied_at (selection self.entry) area) (price S.Scale.meaning self.entry area) }
+    {
+        match self.price::<S>(area) {
+            Some(price) => {
+                is_demand_fitting::<S>(self.book.demand(area), self.proposal.satisfied(area), price)
+            }
+            None => false,
+        }
+    }
+
+    // Does a border fit?
+    fn does_border_fit<S: Scale>(self, place: usize) -> bool
+        ensures { result ≡ border_priced S.Scale.meaning (border_at (case self.entry) place) (flow_at (selection self.entry) place) (price S.Scale.meaning self.entry (border_at (case self.entry) place).from) (price S.Scale.meaning self.entry (border_at (case self.entry) place).to) }
+    {
+        let border = self.book.border(place);
+        let from = self.price::<S>(usize::from(border.from));
+        let to = self.price::<S>(usize::from(border.to));
+        match (from, to) {
+            (Some(from), Some(to)) => {
+                is_border_fitting::<S>(border, self.proposal.flow(place), from, to)
+            }
+            _ => false,
+        }
+    }
+
+    // Does a bid fit?
+    fn does_bid_fit<S: Scale>(self, place: usize) -> bool
+        ensures { result ≡ bid_priced S.Scale.meaning (bid_at (case self.entry) place) (activated_at (selection self.entry) place) (price S.Scale.meaning self.entry (bid_at (case self.entry) place).area) }
+    {
+        let bid = self.book.bid(place);
+        match self.price::<S>(usize::from(bid.area)) {
+            Some(price) => is_bid_fitting::<S>(bid, self.proposal.activated(place), price),
+            None => false,
+        }
+    }
+
+    // Do all demands fit?
     pub fn ask_demands<S: Scale>(self) -> Result<(), Refusal>
         ensures { result ≡ asked (λ a. demand_priced S.Scale.meaning (demand_at (case self.entry) a) (satisfied_at (selection self.entry) a) (price S.Scale.meaning self.entry a)) (areas (case self.entry)) DemandFit }
     {
         ask(
             self.book.demands.len(),
-            |area| match self.price::<S>(area) {
-                Some(price) => is_demand_fitting::<S>(
-                    self.book.demands[area],
-                    self.proposal.satisfied(area),
-                    price,
-                ),
-                None => false,
-            },
+            |area| self.does_demand_fit::<S>(area),
             Refusal::DemandFit,
         )
     }
 
-    // Does each border fit?
+    // Do all borders fit?
     pub fn ask_borders<S: Scale>(self) -> Result<(), Refusal>
         ensures { result ≡ asked (λ k. border_priced S.Scale.meaning (border_at (case self.entry) k) (flow_at (selection self.entry) k) (price S.Scale.meaning self.entry (border_at (case self.entry) k).from) (price S.Scale.meaning self.entry (border_at (case self.entry) k).to)) (length (case self.entry).borders) BorderFit }
     {
         ask(
             self.book.borders.len(),
-            |place| {
-                let border = self.book.borders[place];
-                let from = self.price::<S>(usize::from(border.from));
-                let to = self.price::<S>(usize::from(border.to));
-                match (from, to) {
-                    (Some(from), Some(to)) => {
-                        is_border_fitting::<S>(border, self.proposal.flow(place), from, to)
-                    }
-                    _ => false,
-                }
-            },
+            |border| self.does_border_fit::<S>(border),
             Refusal::BorderFit,
         )
     }
 
-    // Does each bid fit?
+    // Do all bids fit?
     pub fn ask_bids<S: Scale>(self) -> Result<(), Refusal>
         ensures { result ≡ asked (λ k. bid_priced S.Scale.meaning (bid_at (case self.entry) k) (activated_at (selection self.entry) k) (price S.Scale.meaning self.entry (bid_at (case self.entry) k).area)) (length (case self.entry).bids) BidFit }
     {
         ask(
             self.book.bids.len(),
-            |place| {
-                let bid = self.book.bids[place];
-                match self.price::<S>(usize::from(bid.area)) {
-                    Some(price) => {
-                        is_bid_fitting::<S>(bid, self.proposal.activated(place), price)
-                    }
-                    None => false,
-                }
-            },
+            |bid| self.does_bid_fit::<S>(bid),
             Refusal::BidFit,
         )
     }

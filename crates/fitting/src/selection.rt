@@ -18,7 +18,7 @@ impl Candidate<'_, '_, '_> {
     {
         ask(
             self.book.demands.len(),
-            |area| is_satisfied_allowed(self.book.demands[area], self.proposal.satisfied(area)),
+            |area| is_satisfied_allowed(self.book.demand(area), self.proposal.satisfied(area)),
             Refusal::Satisfied,
         )
     }
@@ -29,7 +29,7 @@ impl Candidate<'_, '_, '_> {
     {
         ask(
             self.book.borders.len(),
-            |border| is_flow_allowed(self.book.borders[border], self.proposal.flow(border)),
+            |border| is_flow_allowed(self.book.border(border), self.proposal.flow(border)),
             Refusal::Flow,
         )
     }
@@ -40,7 +40,7 @@ impl Candidate<'_, '_, '_> {
     {
         ask(
             self.book.bids.len(),
-            |bid| is_activated_allowed(self.book.bids[bid], self.proposal.activated(bid)),
+            |bid| is_activated_allowed(self.book.bid(bid), self.proposal.activated(bid)),
             Refusal::Activated,
         )
     }

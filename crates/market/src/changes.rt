@@ -36,10 +36,9 @@ impl Book {
             return Err(Refusal::Limits(border));
         }
         self.borders[border] = Border {
-            from: old.from,
-            to: old.to,
             forward,
             backward,
+            ..old
         };
         Ok(())
     }
@@ -52,12 +51,7 @@ impl Book {
         let Some(old) = self.bids.get(bid).copied() else {
             return Err(Refusal::Unknown(bid));
         };
-        self.bids[bid] = Bid {
-            area: old.area,
-            direction: old.direction,
-            volume: 0,
-            price: old.price,
-        };
+        self.bids[bid] = Bid { volume: 0, ..old };
         Ok(())
     }
 }

@@ -3,6 +3,7 @@
 
 mod book;
 mod changes;
+mod lookup;
 mod question;
 mod refusal;
 mod settled;

@@ -9,5 +9,5 @@ use Rattle.fitting.proofs.candidate.Candidate.ask_activated.Goals as goal
 
 pub returns : goal.returns
 returns c =
-    asked_is (λ k. activated_allowed (bid_at (case c.args.self) k) (activated_at (selection c.args.self) k)) Activated c.len.ensures c.ask.ensures
+    asked_is (λ k. activated_allowed (bid_at (case c.args.self) k) (activated_at (selection c.args.self) k)) Activated (search rules) c.ask.ensures
     (λ k b below says. search rules) (λ k e below says. search rules)

@@ -8,5 +8,5 @@ use Rattle.fitting.proofs.candidate.Candidate.ask_borders.Goals as goal
 
 pub returns : goal.returns
 returns g c =
-    asked_is (λ k. border_priced g.S.Scale.meaning (border_at (case c.args.self) k) (flow_at (selection c.args.self) k) (price g.S.Scale.meaning c.args.self (border_at (case c.args.self) k).from) (price g.S.Scale.meaning c.args.self (border_at (case c.args.self) k).to)) BorderFit c.len.ensures c.ask.ensures
+    asked_is (λ k. border_priced g.S.Scale.meaning (border_at (case c.args.self) k) (flow_at (selection c.args.self) k) (price g.S.Scale.meaning c.args.self (border_at (case c.args.self) k).from) (price g.S.Scale.meaning c.args.self (border_at (case c.args.self) k).to)) BorderFit (search rules) c.ask.ensures
     (λ k b below says. search rules) (λ k e below says. search rules)

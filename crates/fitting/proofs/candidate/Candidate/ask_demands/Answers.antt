@@ -8,5 +8,5 @@ use Rattle.fitting.proofs.candidate.Candidate.ask_demands.Goals as goal
 
 pub returns : goal.returns
 returns g c =
-    asked_is (λ a. demand_priced g.S.Scale.meaning (demand_at (case c.args.self) a) (satisfied_at (selection c.args.self) a) (price g.S.Scale.meaning c.args.self a)) DemandFit c.len.ensures c.ask.ensures
+    asked_is (λ a. demand_priced g.S.Scale.meaning (demand_at (case c.args.self) a) (satisfied_at (selection c.args.self) a) (price g.S.Scale.meaning c.args.self a)) DemandFit (search rules) c.ask.ensures
     (λ k b below says. search rules) (λ k e below says. search rules)

@@ -9,5 +9,5 @@ use Rattle.fitting.proofs.candidate.Candidate.ask_flows.Goals as goal
 
 pub returns : goal.returns
 returns c =
-    asked_is (λ k. flow_allowed (border_at (case c.args.self) k) (flow_at (selection c.args.self) k)) Flow c.len.ensures c.ask.ensures
-    (λ k b below says. search (says.said-raw.0, rules)) (λ k e below says. search rules)
+    asked_is (λ k. flow_allowed (border_at (case c.args.self) k) (flow_at (selection c.args.self) k)) Flow (search rules) c.ask.ensures
+    (λ k b below says. search rules) (λ k e below says. search rules)

@@ -6,5 +6,5 @@ use Rattle.fitting.proofs.candidate.Candidate.ask_range.Goals as goal
 
 pub returns : goal.returns
 returns g c =
-    asked_is (λ a. is_some (price g.S.Scale.meaning c.args.self a)) Price c.len.ensures c.ask.ensures
+    asked_is (λ a. is_some (price g.S.Scale.meaning c.args.self a)) Price (search rules) c.ask.ensures
     (λ k b below says. search rules) (λ k e below says. search rules)

@@ -9,5 +9,5 @@ use Rattle.fitting.proofs.candidate.Candidate.ask_satisfied.Goals as goal
 
 pub returns : goal.returns
 returns c =
-    asked_is (λ a. satisfied_allowed (demand_at (case c.args.self) a) (satisfied_at (selection c.args.self) a)) Satisfied c.len.ensures c.ask.ensures
-    (λ k b below says. ?) (λ k e below says. search rules)
+    asked_is (λ a. satisfied_allowed (demand_at (case c.args.self) a) (satisfied_at (selection c.args.self) a)) Satisfied (search rules) c.ask.ensures
+    (λ k b below says. search rules) (λ k e below says. search rules)
