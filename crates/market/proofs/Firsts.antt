@@ -1,7 +1,7 @@
 -- The first place that fails is the one that `first_no` finds, and no other. Assumes nothing.
 use Rattle.std.proofs.Common.{◌≡◌, ℕ, zero, suc, ◌+◌, ◌<◌, ◌≤◌, Bool, true, false, cond, Some, None, Ok, Err, Option, Result, sym, refl, ap, ◌∙◌, arith}
 use native.Mathlib.Decide.{ℕ_discrete}
-use Rattle.market.specs.First.{first_no, FirstNo, ask, refused_at, and_then, Answers, Asked}
+use Rattle.market.specs.First.{first_no, FirstNo, ask, refused_at, and_then}
 
 pub first_no_none : (ok : ℕ → Bool) (i n : ℕ) → ((k : ℕ) → i ≤ k → k < i + n → ok k ≡ true) → first_no ok i n ≡ None
 first_no_none ok i zero all = refl
@@ -51,19 +51,6 @@ all_from_ask {E} ok n refusal e k h = all_from_first_no ok 0 n (none (first_no o
 
 pub ask_all : {E : Type 0} (ok : ℕ → Bool) (n : ℕ) (refusal : ℕ → E) → ((k : ℕ) → k < n → ok k ≡ true) → ask ok n refusal ≡ Ok tt
 ask_all ok n refusal all = ap (refused_at refusal) (first_no_none ok 0 n (λ k low high. all k (omega arith)))
-
--- where the answers are those of a test, and what refuses is a refusal, so is the whole
-pub asked_is : {E : Type 0} {answers : ℕ → Bool → Type 0} {refuses : ℕ → E → Type 0} {n m : ℕ} {r : Result (Unit {0}) E} (ok : ℕ → Bool) (refusal : ℕ → E)
-    → n ≡ m → Asked answers n refuses r → ((k : ℕ) (b : Bool) → k < n → answers k b → b ≡ ok k) → ((k : ℕ) (e : E) → k < n → refuses k e → e ≡ refusal k)
-    → r ≡ ask ok m refusal
-asked_is {E} {answers} {refuses} {n} {m} {r} ok refusal many asked test says = at r asked.answer
-  where
-    at : (r : Result (Unit {0}) E) → Answers answers n refuses r → r ≡ ask ok m refusal
-    at (Ok u) all = sym (ask_all ok m refusal (λ k below. let h : k < n = omega (arith, many) in sym (test k true h (all k h))))
-    at (Err e) (i, below, fails, refused, before) =
-        ap Err (says i e below refused)
-        ∙ sym (ap (refused_at refusal) (first_no_some ok 0 m i (omega arith) (omega (arith, many)) (sym (test i false below fails))
-        (λ k low high. sym (test k true (omega arith) (before k high)))))
 
 -- two questions in a row get a yes where both do
 pub both_from_and_then : {E : Type 0} (a b : Result (Unit {0}) E) → and_then a b ≡ Ok tt → (a ≡ Ok tt) × (b ≡ Ok tt)

@@ -2,9 +2,11 @@
 --
 --   first_no     the first of the places i, i + 1, .. (n of them) that fails the test, or none
 --   FirstNo      what it means to be that place
+--   FirstFails   the same of a test that answers by a relation
 --   and_then     the second answer, where the first is a yes
 --   ask_one      one test: a yes, or the refusal
 --   ask          a test at each place: a yes, or the refusal at the first place that fails
+--   Computes     what is answered at each place is what a function says
 use Rattle.std.specs.Prelude.{◌≡◌, ℕ, zero, suc, ◌<◌, Bool, true, false, cond, Some, None, Ok, Err, Option, Result}
 
 abbrev pub first_no : (ℕ → Bool) → ℕ → ℕ → Option ℕ
@@ -31,15 +33,11 @@ refused_at refusal (Some i) = Err (refusal i)
 abbrev pub ask : {E : Type 0} → (ℕ → Bool) → ℕ → (ℕ → E) → Result (Unit {0}) E
 ask ok n refusal = refused_at refusal (first_no ok 0 n)
 
--- the same of a test whose answers are a relation
+-- the same of a test that answers by a relation
 abbrev pub FirstFails : (ℕ → Bool → Type 0) → ℕ → Option ℕ → Type 0
 FirstFails answers n None = (k : ℕ) → k < n → answers k true
 FirstFails answers n (Some i) = (i < n) × answers i false × ((k : ℕ) → k < i → answers k true)
 
--- a yes where each of n places passes, or what refuses at the first that does not
-abbrev pub Answers : {E : Type 0} → (ℕ → Bool → Type 0) → ℕ → (ℕ → E → Type 0) → Result (Unit {0}) E → Type 0
-Answers answers n refuses (Ok u) = (k : ℕ) → k < n → answers k true
-Answers answers n refuses (Err e) = (i : ℕ) × (i < n) × answers i false × refuses i e × ((k : ℕ) → k < i → answers k true)
-
-pub record Asked {E : Type 0} (answers : ℕ → Bool → Type 0) (n : ℕ) (refuses : ℕ → E → Type 0) (r : Result (Unit {0}) E) : Type 0 where
-  pub answer : Answers answers n refuses r
+-- what is answered at each of n places is what a function says
+abbrev pub Computes : {X : Type 0} → (ℕ → X → Type 0) → ℕ → (ℕ → X) → Type 0
+Computes answers n says = (k : ℕ) → (x : _) → k < n → answers k x → x ≡ says k

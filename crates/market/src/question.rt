@@ -1,13 +1,16 @@
 // A question that is asked at places 0, 1, .. and refuses at the first that fails.
-ghost use Rattle.std.specs.Prelude.{ℕ, ◌<◌, ◌^◌};
-ghost use Rattle.market.specs.First.{FirstFails, Asked};
+ghost use Rattle.std.specs.Prelude.{◌≡◌, ℕ, ◌<◌, Bool};
+ghost use Rattle.market.specs.First.{first_no, ask as asked, FirstNo, FirstFails, Computes};
+ghost use Rattle.market.specs.declared.refusal.Refusal.{Refusal as RefusalType};
 
 use crate::refusal::Refusal;
 
 // The first of so many places at which the test fails, or none.
 pub fn first_no<F: Fn(usize) -> bool>(places: usize, passes: F) -> Option<usize>
     requires { (k : ℕ) → k < places → F.pre passes k }
-    ensures { FirstFails (F.post passes) places result }
+    ensures fails { FirstFails (F.post passes) places result }
+    ensures value { (ok : ℕ → Bool) → Computes (F.post passes) places ok → result ≡ first_no ok 0 places }
+    ensures first { (ok : ℕ → Bool) → Computes (F.post passes) places ok → FirstNo ok places result }
 {
     for place in 0..places {
         if !passes(place) {
@@ -24,8 +27,8 @@ pub fn ask<F: Fn(usize) -> bool, R: Fn(usize) -> Refusal>(
     refusal: R,
 ) -> Result<(), Refusal>
     requires test { (k : ℕ) → k < places → F.pre passes k }
-    requires refuses { (k : ℕ) → k < places → R.pre refusal k }
-    ensures { Asked (F.post passes) places (R.post refusal) result }
+    requires no { (k : ℕ) → k < places → R.pre refusal k }
+    ensures { (ok : ℕ → Bool) (no : ℕ → RefusalType) → Computes (F.post passes) places ok → Computes (R.post refusal) places no → result ≡ asked ok places no }
 {
     match first_no(places, passes) {
         Some(place) => Err(refusal(place)),
