@@ -3,11 +3,11 @@
 --   length_numbers   n numbers are n
 --   numbers_append   the numbers in bytes are those in the front, then those in the rest
 --   read_is          what is read where the levels are at most 16
---   both_read        what a pair reads, from what its parts read
---   told             what a call read, once `?` has told which way it went
---   pair_reads       a pair reads its first part from the front, and its second from the rest
+--   pair_reads       what a pair reads, from what its parts read
+--   zip_worths       what two answers together stand for
 use Rattle.std.proofs.Common.{◌≡◌, ℕ, zero, suc, ◌+◌, ◌*◌, ◌≤◌, min, Bool, true, false, cond, ◌&&◌, eqb, leb, List, ◌∷◌, ◌++◌, length, take, drop, Some, None, Option, sym, refl, ap, ◌∙◌, zero-add, arith, w64, to_z}
-use Rattle.std.specs.Option.{option_map}
+use Rattle.std.specs.List.{IsSplitAt}
+use Rattle.std.specs.Option.{option_map, option_zip}
 use Rattle.std.proofs.lemmas.List.{take_at, drop_at, take-take, drop-drop, drop-take, length-take-le, length-drop}
 use Rattle.std.proofs.lemmas.Bool.Decides.{nat_tests}
 use Rattle.scale.specs.Meaning.{Meaning}
@@ -47,16 +47,7 @@ read_is m bs h =
     let count : eqb (length (numbers m.levels bs)) m.levels ≡ true = grind (arith, nat_tests) in
     tidy (eqb (length bs) (8 * m.levels)) (leb m.levels 16) (eqb (length (numbers m.levels bs)) m.levels) (m.in_range (m.value (numbers m.levels bs))) (Some (m.value (numbers m.levels bs))) few count
 
-abbrev pub both_read : {X Y : Type 0} → Option X → Option Y → Option (X × Y)
-both_read None y = None
-both_read (Some x) None = None
-both_read (Some x) (Some y) = Some (x, y)
-
-no_second : {X Y : Type 0} (x : Option X) → None ≡ both_read {X = X} {Y = Y} x None
-no_second None = refl
-no_second (Some x) = refl
-
-joined : {X Y : Type 0} (long first second : Bool) (x : X) (y : Y) → cond (long && (first && second)) (Some (x, y)) None ≡ both_read (cond first (Some x) None) (cond (long && second) (Some y) None)
+joined : {X Y : Type 0} (long first second : Bool) (x : X) (y : Y) → cond (long && (first && second)) (Some (x, y)) None ≡ option_zip (cond first (Some x) None) (cond (long && second) (Some y) None)
 joined true true true x y = refl
 joined true true false x y = refl
 joined true false second x y = refl
@@ -83,8 +74,8 @@ module _ (a b : Meaning) (bs : List ℕ) (few : a.levels + b.levels ≤ 16) (roo
       let l = length-take-le (8 * a.levels) bs room in
       grind (arith, nat_tests)
 
-  pub pair_reads : read_bytes (pair a b) bs ≡ both_read (read_bytes a (take (8 * a.levels) bs)) (read_bytes b (drop (8 * a.levels) bs))
-  pair_reads =
+  reads : read_bytes (pair a b) bs ≡ option_zip (read_bytes a (take (8 * a.levels) bs)) (read_bytes b (drop (8 * a.levels) bs))
+  reads =
       let x = a.value (numbers a.levels (take (8 * a.levels) bs)) in
       let y = b.value (numbers b.levels (drop (8 * a.levels) bs)) in
       let of_a = read_is a (take (8 * a.levels) bs) (omega arith) ∙ (λ i. cond (first_test i && a.in_range x) (Some x) None) in
@@ -92,27 +83,18 @@ module _ (a b : Meaning) (bs : List ℕ) (few : a.levels + b.levels ≤ 16) (roo
       read_is (pair a b) bs (omega arith)
       ∙ (λ i. cond (same_test i && (a.in_range (a.value (first_part i)) && b.in_range (b.value (second_part i)))) (Some (a.value (first_part i), b.value (second_part i))) None)
       ∙ joined (eqb (length (drop (8 * a.levels) bs)) (8 * b.levels)) (a.in_range x) (b.in_range y) x y
-      ∙ (λ i. both_read (sym of_a i) (sym of_b i))
+      ∙ (λ i. option_zip (sym of_a i) (sym of_b i))
 
--- what a pair reads, by what its parts read from a front of n levels and the rest
-module _ (a b : Meaning) (n m : ℕ) (bs front back : List ℕ) (e : n ≡ a.levels) (f : m ≡ b.levels) (few : n + m ≤ 16) (room : 8 * n ≤ length bs) (is_front : front ≡ take (8 * n) bs) (is_back : back ≡ drop (8 * n) bs) where
-  reads : read_bytes (pair a b) bs ≡ both_read (read_bytes a front) (read_bytes b back)
-  reads =
-      let few' : a.levels + b.levels ≤ 16 = omega arith in
-      let room' : 8 * a.levels ≤ length bs = omega arith in
-      let front_is : take (8 * a.levels) bs ≡ front = (λ i. take (8 * sym e i) bs) ∙ sym is_front in
-      let back_is : drop (8 * a.levels) bs ≡ back = (λ i. drop (8 * sym e i) bs) ∙ sym is_back in
-      pair_reads a b bs few' room' ∙ (λ i. both_read (read_bytes a (front_is i)) (read_bytes b (back_is i)))
+-- a pair reads its first part from a front of n levels, and its second from the rest
+pub pair_reads : (a b : Meaning) (n m : ℕ) (bs front back : List ℕ) → n ≡ a.levels → m ≡ b.levels → n + m ≤ 16 → IsSplitAt bs (8 * n) front back → read_bytes (pair a b) bs ≡ option_zip (read_bytes a front) (read_bytes b back)
+pair_reads a b n m bs front back e f few split =
+    let few' : a.levels + b.levels ≤ 16 = omega arith in
+    let room : 8 * a.levels ≤ length bs = omega (arith, split.0) in
+    let front_is : take (8 * a.levels) bs ≡ front = (λ i. take (8 * sym e i) bs) ∙ sym split.1 in
+    let back_is : drop (8 * a.levels) bs ≡ back = (λ i. drop (8 * sym e i) bs) ∙ sym split.2 in
+    reads a b bs few' room ∙ (λ i. option_zip (read_bytes a (front_is i)) (read_bytes b (back_is i)))
 
-  pub none_first : None ≡ read_bytes a front → None ≡ read_bytes (pair a b) bs
-  none_first h = sym (reads ∙ ap (λ x. both_read x (read_bytes b back)) (sym h))
-
-  pub none_second : None ≡ read_bytes b back → None ≡ read_bytes (pair a b) bs
-  none_second h = no_second (read_bytes a front) ∙ sym (reads ∙ ap (both_read (read_bytes a front)) (sym h))
-
-  pub some_both : (x : a.Value) (y : b.Value) → Some x ≡ read_bytes a front → Some y ≡ read_bytes b back → Some (x, y) ≡ read_bytes (pair a b) bs
-  some_both x y h k = sym (reads ∙ (λ i. both_read (sym h i) (sym k i)))
-
--- what a call read, once `?` has told which way it went
-pub told : {K X Y : Type 0} (way : K → Option X) (worth : X → Y) (r : Option X) (f g : K) (v : Option Y) → r ≡ way f → f ≡ g → option_map worth r ≡ v → option_map worth (way g) ≡ v
-told way worth r f g v e is h = sym (ap (option_map worth) (e ∙ ap way is)) ∙ h
+pub zip_worths : {X Y V W : Type 0} (f : X → V) (g : Y → W) (x : Option X) (y : Option Y) → option_map (λ p. (f p.0, g p.1)) (option_zip x y) ≡ option_zip (option_map f x) (option_map g y)
+zip_worths f g None y = refl
+zip_worths f g (Some x) None = refl
+zip_worths f g (Some x) (Some y) = refl

@@ -4,5 +4,5 @@ pub mod Pair
 pub mod Levels
 pub mod Singles
 pub mod Both
-pub mod MoneyScaleLemmas
+pub mod Bounds
 pub mod Pairs

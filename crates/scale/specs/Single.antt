@@ -1,6 +1,7 @@
 -- The three single scales: whole numbers, one level each.
 --
 --   single           a scale of one level on the whole numbers, from its unit costs, its largest price and whether bids take part
+--   satisfaction_most, volume_most, money_most    the largest price on each of the three
 --   satisfaction     a satisfied kilowatt costs -1, a bid nothing; prices from -8 to 8; bids take no part
 --   volume           an activated kilowatt costs 1, satisfaction nothing; prices from -8 to 8; bids take part
 --   money            an up bid costs its price, a down bid the opposite, satisfaction nothing; prices from -79,999,200 to 79,999,200; bids take part
@@ -25,11 +26,20 @@ single satisfied up down most bids = record {
   value = λ ns. slice_index_or ns 0 (pos 0);
 }
 
+abbrev pub satisfaction_most : ℕ
+satisfaction_most = 8
+
 abbrev pub satisfaction : Meaning
-satisfaction = single (negsuc 0) (λ _. pos 0) (λ _. pos 0) 8 false
+satisfaction = single (negsuc 0) (λ _. pos 0) (λ _. pos 0) satisfaction_most false
+
+abbrev pub volume_most : ℕ
+volume_most = 8
 
 abbrev pub volume : Meaning
-volume = single (pos 0) (λ _. pos 1) (λ _. pos 1) 8 true
+volume = single (pos 0) (λ _. pos 1) (λ _. pos 1) volume_most true
+
+abbrev pub money_most : ℕ
+money_most = 79999200
 
 abbrev pub money : Meaning
-money = single (pos 0) (λ price. price) neg_ℤ 79999200 true
+money = single (pos 0) (λ price. price) neg_ℤ money_most true

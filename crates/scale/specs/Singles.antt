@@ -1,16 +1,16 @@
 -- The laws of a single scale, from the sizes of its unit costs.
 --
 --   Within n v     v lies from -n to n
---   Bounded        the unit costs have at most the size n
---   single_laws    a single scale keeps the laws, where four times that size is in its range, and its range fits a level
-use Rattle.std.specs.Prelude.{◌≡◌, ℕ, suc, ◌*◌, ◌^◌, ◌<◌, ◌≤◌, Bool, T, ◌⊎◌, List, [], ◌∷◌, length, ℤ, pos, ◌+ℤ◌, neg_ℤ, ◌≤ℤ◌, ◌<ℤ◌, FitsSigned, ◌≢◌, int_le, int_lt, slice_index_or, refl}
+--   Bounded        no unit cost is larger than a quarter of the range, and the range fits a level
+--   single_laws    then a single scale keeps the laws
+use Rattle.std.specs.Prelude.{◌≡◌, ℕ, ◌*◌, ◌/◌, ◌^◌, ◌<◌, ◌≤◌, Bool, T, ◌⊎◌, List, [], ◌∷◌, length, ℤ, pos, ◌+ℤ◌, neg_ℤ, ◌≤ℤ◌, ◌<ℤ◌, FitsSigned, int_le, int_lt, slice_index_or, refl}
 use Rattle.std.proofs.Common.{inl, inr, arith, mul-le-mul_left}
 use Rattle.std.proofs.Math.IntN.{+ℤ_comm, +ℤ_assoc, +ℤ_idl, +ℤ_invr}
 use Rattle.std.specs.Int.Signed.{le_z_yes, lt_z_yes, <ℤ_irrefl}
 use Rattle.std.specs.Int.{w64}
 use Rattle.std.specs.List.{AllByRecursion}
 use Rattle.std.proofs.lemmas.Int.{ints, by_lt_z}
-use Rattle.scale.specs.Meaning.{Laws, UnitCost, SignedCost, BidPrice, sum}
+use Rattle.scale.specs.Meaning.{Meaning, Laws, UnitCost, SignedCost, BidPrice, sum}
 use Rattle.scale.specs.Meaning.UnitCost.{of_satisfied, of_up, of_down}
 use Rattle.scale.specs.Meaning.SignedCost.{cost, gain}
 use Rattle.scale.specs.Single.{single}
@@ -20,10 +20,11 @@ pub record Within (n : ℕ) (v : ℤ) : Type 0 where
   pub least : neg_ℤ (pos n) ≤ℤ v
   pub most : v ≤ℤ pos n
 
-pub record Bounded (n : ℕ) (satisfied : ℤ) (up down : ℤ → ℤ) : Type 0 where
-  pub of_satisfied : Within n satisfied
-  pub of_up : (p : ℤ) → BidPrice p → Within n (up p)
-  pub of_down : (p : ℤ) → BidPrice p → Within n (down p)
+pub record Bounded (most : ℕ) (satisfied : ℤ) (up down : ℤ → ℤ) : Type 0 where
+  pub of_satisfied : Within (most / 4) satisfied
+  pub of_up : (p : ℤ) → BidPrice p → Within (most / 4) (up p)
+  pub of_down : (p : ℤ) → BidPrice p → Within (most / 4) (down p)
+  pub fits : most < 2 ^ 63
 
 -- of a number that is written out, `tt` shows both
 pub within : {n : ℕ} {v : ℤ} → T (int_le (neg_ℤ (pos n)) v) → T (int_le v (pos n)) → Within n v
@@ -40,52 +41,50 @@ less_total x y =
 less_plus : (x y z : ℤ) → T (int_lt x y) → T (int_lt (x +ℤ z) (y +ℤ z))
 less_plus x y z p = let r : (x +ℤ z) <ℤ (y +ℤ z) = omega (arith, ints) in r.lt
 
-no_zero : ◌≡◌ {A = ℕ} 0 1 → ⊥
-no_zero h = omega arith
-
-no_two : (n : ℕ) → suc (suc n) ≢ 1
-no_two n h = omega arith
-
 one_number : (ns : List ℤ) → length ns ≡ 1 → slice_index_or ns 0 (pos 0) ∷ [] ≡ ns
-one_number [] h = absurd (no_zero h)
+one_number [] h = absurd (omega arith)
 one_number (x ∷ []) h = refl
-one_number (x ∷ y ∷ ns) h = absurd (no_two (length ns) h)
+one_number (x ∷ y ∷ ns) h = absurd (omega arith)
 
-module _ (satisfied : ℤ) (up down : ℤ → ℤ) (most n : ℕ) (bids : Bool) (costs : Bounded n satisfied up down) where
-  of_unit : (v : ℤ) → UnitCost (single satisfied up down most bids) v → Within n v
-  of_unit _ of_satisfied = costs.of_satisfied
-  of_unit _ (of_up p h) = costs.of_up p h
-  of_unit _ (of_down p h) = costs.of_down p h
+module _ (satisfied : ℤ) (up down : ℤ → ℤ) (most : ℕ) (bids : Bool) (bounded : Bounded most satisfied up down) where
+  abbrev scale : Meaning
+  scale = single satisfied up down most bids
 
-  of_signed : (v : ℤ) → SignedCost (single satisfied up down most bids) v → Within n v
+  of_unit : (v : ℤ) → UnitCost scale v → Within (most / 4) v
+  of_unit _ of_satisfied = bounded.of_satisfied
+  of_unit _ (of_up p h) = bounded.of_up p h
+  of_unit _ (of_down p h) = bounded.of_down p h
+
+  of_signed : (v : ℤ) → SignedCost scale v → Within (most / 4) v
   of_signed _ (cost v h) = of_unit v h
   of_signed _ (gain v h) =
       let w = of_unit v h in
       record { least = omega (arith, ints); most = omega (arith, ints) }
 
-  of_sum : (vs : List ℤ) → AllByRecursion (SignedCost (single satisfied up down most bids)) vs → Within (n * length vs) (sum (single satisfied up down most bids) vs)
+  of_sum : (vs : List ℤ) → AllByRecursion (SignedCost scale) vs → Within (most / 4 * length vs) (sum scale vs)
   of_sum [] h = record { least = omega (arith, ints); most = omega (arith, ints) }
   of_sum (v ∷ vs) h =
       let first = of_signed v h.0 in
       let rest = of_sum vs h.1 in
       record { least = omega (arith, ints); most = omega (arith, ints) }
 
-  in_range : 4 * n ≤ most → (vs : List ℤ) → AllByRecursion (SignedCost (single satisfied up down most bids)) vs → length vs ≤ 4 → T ((single satisfied up down most bids).in_range (sum (single satisfied up down most bids) vs))
-  in_range wide vs h few =
+  in_range : (vs : List ℤ) → AllByRecursion (SignedCost scale) vs → length vs ≤ 4 → T (scale.in_range (sum scale vs))
+  in_range vs h few =
       let w = of_sum vs h in
-      let room : n * length vs ≤ n * 4 = mul-le-mul_left n few in
-      let low : neg_ℤ (pos most) ≤ℤ sum (single satisfied up down most bids) vs = omega (arith, ints) in
-      let high : sum (single satisfied up down most bids) vs ≤ℤ pos most = omega (arith, ints) in
+      let room : most / 4 * length vs ≤ most / 4 * 4 = mul-le-mul_left (most / 4) few in
+      let low : neg_ℤ (pos most) ≤ℤ sum scale vs = omega (arith, ints) in
+      let high : sum scale vs ≤ℤ pos most = omega (arith, ints) in
       both _ _ low.le high.le
 
-  fits_level : most < 2 ^ 63 → (v : ℤ) → T ((single satisfied up down most bids).in_range v) → AllByRecursion (FitsSigned w64) (v ∷ [])
-  fits_level small v h =
+  fits_level : (v : ℤ) → T (scale.in_range v) → AllByRecursion (FitsSigned w64) (v ∷ [])
+  fits_level v h =
       let low : neg_ℤ (pos most) ≤ℤ v = le_z_yes (first_of (int_le (neg_ℤ (pos most)) v) (int_le v (pos most)) h) in
       let high : v ≤ℤ pos most = le_z_yes (second_of (int_le (neg_ℤ (pos most)) v) (int_le v (pos most)) h) in
+      let small = bounded.fits in
       (omega (arith, ints), tt)
 
-  pub single_laws : 4 * n ≤ most → most < 2 ^ 63 → Laws (single satisfied up down most bids)
-  single_laws wide small = record {
+  pub single_laws : Laws scale
+  single_laws = record {
     plus_comm = +ℤ_comm;
     plus_assoc = +ℤ_assoc;
     zero_plus = +ℤ_idl;
@@ -94,10 +93,10 @@ module _ (satisfied : ℤ) (up down : ℤ → ℤ) (most n : ℕ) (bids : Bool) 
     less_trans = less_trans;
     less_total = less_total;
     less_plus = less_plus;
-    sums_in_range = in_range wide;
+    sums_in_range = in_range;
     few_levels = omega arith;
     written_count = λ _ _ _. refl;
-    written_fits = λ _ v h. fits_level small v h;
+    written_fits = λ _. fits_level;
     value_written = λ _ _ _. refl;
     written_value = λ _ ns h _ _. one_number ns h;
   }

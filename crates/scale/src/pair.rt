@@ -48,11 +48,11 @@ impl<A: Scale, B: Scale> Scale for Pair<A, B> {
 
     fn read_price(bytes: &[u8]) -> Option<Self::Price> {
         let first = A::levels();
-        if first + B::levels() > 16 || bytes.len() < 8 * first {
+        if first + B::levels() > 16 {
             return None;
         }
-        let (front, back) = bytes.split_at(8 * first);
-        Some((A::read_price(front)?, B::read_price(back)?))
+        let (front, back) = bytes.split_at_checked(8 * first)?;
+        A::read_price(front).zip(B::read_price(back))
     }
 
     fn zero() -> Self::Figure {

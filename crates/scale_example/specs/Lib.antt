@@ -1,2 +1,2 @@
 pub mod Mills
-pub mod MillsScaleLemmas
+pub mod Bounds

@@ -1,5 +1,5 @@
-use super::*;
-use scale::{Pair, Volume};
+use super::Mills;
+use scale::{Pair, Scale, Volume};
 
 #[test]
 fn range_ends(rt: HostRuntime) {

@@ -1,17 +1,11 @@
 // What the scales answer at the ends of their ranges, on lists of levels that are too short or too long, and past 16 levels.
 use scale::{Activation, Money, Netting, Pair, Satisfaction, Scale, Volume};
 use std::cmp::Ordering;
-use std::process::Abort;
 
 // The price that the numbers write on the activation scale, from the first `count` bytes of four levels.
 fn read(levels: [i64; 4], count: usize) -> Option<(i64, (i64, i64))> {
-    let [a, b, c, d] = levels;
-    let mut bytes = [0; 32];
-    bytes[0..8].copy_from_slice(&a.to_le_bytes());
-    bytes[8..16].copy_from_slice(&b.to_le_bytes());
-    bytes[16..24].copy_from_slice(&c.to_le_bytes());
-    bytes[24..32].copy_from_slice(&d.to_le_bytes());
-    Activation::read_price(bytes.get(0..count)?)
+    let bytes = levels.map(i64::to_le_bytes);
+    Activation::read_price(bytes.as_flattened().get(..count)?)
 }
 
 #[test]
@@ -52,8 +46,7 @@ fn levels_of_the_activation_scale(rt: HostRuntime) {
         ([0, 0, 0, 0], 25, false),
     ] {
         let [a, b, c, _] = levels;
-        let price = if inside { Some((a, (b, c))) } else { None };
-        assert_eq!(rt; read(levels, count), price);
+        assert_eq!(rt; read(levels, count), inside.then_some((a, (b, c))));
     }
 }
 
@@ -73,34 +66,18 @@ fn the_first_part_decides(rt: HostRuntime) {
     assert_eq!(rt; Activation::compare((0, (-1, 5)), sum), Ordering::Less);
 }
 
-// Each doubles the levels, on the way from one to sixteen.
-fn from_one<S: Scale>(rt: &impl Abort) {
-    from_two::<Pair<S, S>>(rt);
-}
+// The pair of a scale with itself has twice its levels.
+type Twice<S> = Pair<S, S>;
 
-fn from_two<S: Scale>(rt: &impl Abort) {
-    from_four::<Pair<S, S>>(rt);
-}
-
-fn from_four<S: Scale>(rt: &impl Abort) {
-    from_eight::<Pair<S, S>>(rt);
-}
-
-fn from_eight<S: Scale>(rt: &impl Abort) {
-    at_sixteen::<Pair<S, S>>(rt);
-}
-
-fn at_sixteen<S: Scale>(rt: &impl Abort) {
-    assert_eq!(rt; S::levels(), 16);
-    assert!(rt; S::read_price(&[0; 128]).is_some());
-    assert!(rt; S::read_price(&[0; 136]).is_none());
-    assert_eq!(rt; Pair::<S, Money>::levels(), 17);
-    assert!(rt; Pair::<S, Money>::read_price(&[0; 136]).is_none());
-    assert_eq!(rt; Pair::<S, S>::levels(), 17);
-    assert!(rt; Pair::<S, S>::read_price(&[0; 256]).is_none());
-}
+type Sixteen = Twice<Twice<Twice<Twice<Satisfaction>>>>;
 
 #[test]
 fn sixteen_levels_and_seventeen(rt: HostRuntime) {
-    from_one::<Satisfaction>(&rt);
+    assert_eq!(rt; Sixteen::levels(), 16);
+    assert!(rt; Sixteen::read_price(&[0; 128]).is_some());
+    assert!(rt; Sixteen::read_price(&[0; 136]).is_none());
+    assert_eq!(rt; Pair::<Sixteen, Money>::levels(), 17);
+    assert!(rt; Pair::<Sixteen, Money>::read_price(&[0; 136]).is_none());
+    assert_eq!(rt; Twice::<Sixteen>::levels(), 17);
+    assert!(rt; Twice::<Sixteen>::read_price(&[0; 256]).is_none());
 }
