@@ -1,5 +1,4 @@
 mod Both
-pub mod Digits
 pub mod Grown
 pub mod Prices
 pub mod Rows

@@ -5,11 +5,12 @@
 --   injections      what all bids inject
 --   Apart x y       x and y differ by an even number
 --   whole           twice netted is satisfied minus activated
-use Rattle.std.proofs.Common.{◌≡◌, ℕ, zero, suc, ◌+◌, ◌/◌, ◌<◌, false, cond, T, eqb, ltb, List, [], ◌∷◌, length, get_or, ℤ, pos, negsuc, ◌+ℤ◌, ◌-ℤ◌, neg_ℤ, nat_abs, sym, refl, ap, ◌∙◌, arith, ltb→lt}
+use Rattle.std.proofs.Common.{◌≡◌, ℕ, zero, suc, ◌+◌, ◌/◌, ◌<◌, false, cond, T, eqb, ltb, List, [], ◌∷◌, length, get_or, ℤ, pos, negsuc, ◌+ℤ◌, ◌-ℤ◌, neg_ℤ, nat_abs, sum, sum_by, sym, refl, ap, ◌∙◌, subst, arith, ltb→lt}
 use mathlib.Core.Logic.{∥∥₁_elim}
 use lib.IntN.{ℤ_set}
 use lib.Signed.{quot_z}
 use Rattle.std.specs.List.{AllByRecursion}
+use Rattle.std.proofs.lemmas.List.Sums.{sum_by-cons}
 use Rattle.std.proofs.lemmas.Int.{ints}
 use Rattle.std.proofs.lemmas.Bool.Decides.{nat_tests}
 use Rattle.market.specs.declared.trade.Direction.{Direction}
@@ -18,7 +19,7 @@ use Rattle.market.specs.declared.trade.Border.{Border}
 use Rattle.market.specs.declared.trade.Bid.{Bid}
 use Rattle.market.specs.Cases.{Case, Valid, areas, ends_known, bid_known}
 use Rattle.market.specs.Selections.{Selection, WithinLimits, injected, brought, flows_into, activated_in, net}
-use Rattle.listing.specs.Figures.{sizes, sum, satisfied_sum, activated_sum, netted}
+use Rattle.listing.specs.Figures.{satisfied_sum, activated_sum, netted}
 use Rattle.listing.proofs.Both.{first_of, second_of}
 
 abbrev sum_to : (ℕ → ℤ) → ℕ → ℤ
@@ -138,9 +139,11 @@ size_apart : (x : ℤ) → Apart (pos (nat_abs x)) x
 size_apart (pos n) = record { half = pos 0; twice = omega (arith, ints) }
 size_apart (negsuc n) = record { half = pos (suc n); twice = omega (arith, ints) }
 
-sizes_apart : (xs : List ℤ) → Apart (pos (sizes xs)) (total xs)
+sizes_apart : (xs : List ℤ) → Apart (pos (sum_by nat_abs xs)) (total xs)
 sizes_apart [] = record { half = pos 0; twice = refl }
-sizes_apart (x ∷ xs) = apart_plus (pos (nat_abs x)) x (pos (sizes xs)) (total xs) (size_apart x) (sizes_apart xs)
+sizes_apart (x ∷ xs) =
+    subst (λ (n : ℕ). Apart (pos n) (x +ℤ total xs)) (sym (sum_by-cons nat_abs x xs))
+    (apart_plus (pos (nat_abs x)) x (pos (sum_by nat_abs xs)) (total xs) (size_apart x) (sizes_apart xs))
 
 amount_apart : (d : Direction) (x : ℕ) → Apart (pos x) (injected d x)
 amount_apart Up x = record { half = pos 0; twice = omega (arith, ints) }
@@ -151,7 +154,8 @@ amounts_apart [] [] e = record { half = pos 0; twice = refl }
 amounts_apart [] (x ∷ xs) e = let no : ⊥ = omega arith in absurd no
 amounts_apart (b ∷ bs) [] e = record { half = pos 0; twice = refl }
 amounts_apart (b ∷ bs) (x ∷ xs) e =
-    apart_plus (pos x) (injected b.direction x) (pos (sum xs)) (injections bs xs) (amount_apart b.direction x) (amounts_apart bs xs (omega arith))
+    subst (λ (n : ℕ). Apart (pos n) (injected b.direction x +ℤ injections bs xs)) (sym (sum_by-cons (λ n. n) x xs))
+    (apart_plus (pos x) (injected b.direction x) (pos (sum xs)) (injections bs xs) (amount_apart b.direction x) (amounts_apart bs xs (omega arith)))
 
 half_of_twice : (h : ℤ) → quot_z (h +ℤ h) (pos 2) ≡ h
 half_of_twice (pos n) = let e : (n + n) / 2 ≡ n = omega arith in ap pos e

@@ -7,7 +7,7 @@
 --   activated_sum     what is activated over the whole case
 --   netted            half of satisfied minus activated
 --   cost              price times amount over the up bids, less that over the down bids
-use Rattle.std.specs.Prelude.{ℕ, ◌+◌, cond, List, [], ◌∷◌, ℤ, pos, ◌+ℤ◌, ◌-ℤ◌, ◌*ℤ◌, neg_ℤ, ◌==◌, int_div, slice_index_or, unsigned_abs}
+use Rattle.std.specs.Prelude.{ℕ, ◌+◌, cond, List, [], ◌∷◌, ℤ, pos, ◌+ℤ◌, ◌-ℤ◌, ◌*ℤ◌, neg_ℤ, ◌==◌, int_div, slice_index_or, sum, sum_by, unsigned_abs}
 use Rattle.market.specs.declared.trade.Direction.{Direction}
 use Rattle.market.specs.declared.trade.Direction.TheVariants.{Up, Down}
 use Rattle.market.specs.declared.trade.Bid.{Bid}
@@ -41,16 +41,8 @@ unsatisfied c s area = demand_at c area -ℤ slice_index_or s.satisfied area (po
 abbrev pub export : Case → Selection → ℕ → ℤ
 export c s area = (pos (up_in c s area) -ℤ pos (down_in c s area)) -ℤ slice_index_or s.satisfied area (pos 0)
 
-abbrev pub sizes : List ℤ → ℕ
-sizes [] = 0
-sizes (x ∷ xs) = unsigned_abs x + sizes xs
-
-abbrev pub sum : List ℕ → ℕ
-sum [] = 0
-sum (x ∷ xs) = x + sum xs
-
 abbrev pub satisfied_sum : Selection → ℕ
-satisfied_sum s = sizes s.satisfied
+satisfied_sum s = sum_by unsigned_abs s.satisfied
 
 abbrev pub activated_sum : Selection → ℕ
 activated_sum s = sum s.activated

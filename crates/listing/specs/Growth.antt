@@ -1,9 +1,15 @@
--- How a text grows.
+-- How a text grows in the memory that is reserved for it.
 --
---   Wrote    a piece was written behind the text, in the memory that it had, and is no longer than a bound
-use Rattle.std.specs.Prelude.{◌≡◌, ℕ, ◌+◌, ◌≤◌, List, ◌++◌, vec_items, vec_len, vec_capacity, Vec}
+--   HasRoom    so many bytes can still be written
+--   Wrote      a piece was written behind the text, in the memory that it had, and is no longer than a bound
+use Rattle.std.specs.Prelude.{◌≡◌, ℕ, ◌+◌, ◌≤◌, List, ◌++◌, vec_len}
+use Rattle.listing.specs.declared.text.Text.{Text}
+use Rattle.listing.specs.View.{text_of, room_of}
 
-pub record Wrote {Z : Type 0} (bound : ℕ) (before after : Vec ℕ Z) (piece : List ℕ) : Type 0 where
-  pub items : vec_items after ≡ vec_items before ++ piece
-  pub memory : vec_capacity after ≡ vec_capacity before
-  pub short : vec_len after ≤ vec_len before + bound
+abbrev pub HasRoom : ℕ → Text → Type 0
+HasRoom n t = vec_len t.bytes + n ≤ room_of t
+
+pub record Wrote (bound : ℕ) (before after : Text) (piece : List ℕ) : Type 0 where
+  pub items : text_of after ≡ text_of before ++ piece
+  pub memory : room_of after ≡ room_of before
+  pub short : vec_len after.bytes ≤ vec_len before.bytes + bound

@@ -2,13 +2,10 @@
 #![tactic(auto)]
 
 mod example;
-mod lines;
 mod sums;
-mod tables;
 mod tally;
 mod text;
 mod total;
-mod writing;
 
 pub use example::example_listing;
 pub use tally::totals;

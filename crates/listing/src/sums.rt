@@ -1,68 +1,57 @@
 // Sums over what stands.
-ghost use Rattle.std.specs.Prelude.{◌≡◌, ◌*◌, ◌^◌, ◌≤◌, T, length, pos, neg_ℤ, ◌≤ℤ◌, if◌then◌else◌, nat_eq};
+ghost use Rattle.std.specs.Prelude.{◌≡◌, ◌*◌, ◌^◌, ◌≤◌, T, length, pos, neg_ℤ, ◌≤ℤ◌, sum, sum_by, unsigned_abs};
 ghost use Rattle.market.specs.Cases.{bid_in_range};
-ghost use Rattle.listing.specs.Figures.{if_up, if_down, sum_in, sizes, sum as total, payment as paid, payments};
+ghost use Rattle.listing.specs.Figures.{if_up, if_down, sum_in, payment as paid, payments};
 ghost use Rattle.listing.specs.Payable.{Payable};
 
 use market::{Bid, Direction};
 
-// What a bid's amount adds to an area's sums, up first.
-fn share(bid: Bid, amount: u32, area: usize) -> (u64, u64)
-    ensures up { result.0 ≡ (if nat_eq bid.area area then if_up bid.direction amount else 0) }
-    ensures down { result.1 ≡ (if nat_eq bid.area area then if_down bid.direction amount else 0) }
-    ensures small { (result.0 ≤ 2 ^ 32) × (result.1 ≤ 2 ^ 32) }
-{
-    if usize::from(bid.area) != area {
-        return (0, 0);
-    }
-    match bid.direction {
-        Direction::Up => (u64::from(amount), 0),
-        Direction::Down => (0, u64::from(amount)),
-    }
+// What is activated in an area, in each direction.
+#[derive(Clone, Copy)]
+pub struct Activated {
+    pub up: u64,
+    pub down: u64,
+    ghost small: { (up ≤ 1024 * 2 ^ 32) × (down ≤ 1024 * 2 ^ 32) },
 }
 
-// What is activated in an area, up first.
-pub fn activated_in(bids: &[Bid], amounts: &[u32], area: usize) -> (u64, u64)
-    requires counts { length amounts.now ≡ length bids.now }
-    requires few { length bids.now ≤ 1024 }
-    ensures up { result.0 ≡ sum_in if_up area bids.now amounts.now }
-    ensures down { result.1 ≡ sum_in if_down area bids.now amounts.now }
-    ensures small { (result.0 ≤ 1024 * 2 ^ 32) × (result.1 ≤ 1024 * 2 ^ 32) }
+// What is activated in an area.
+pub fn activated_in(bids: &[Bid], amounts: &[u32], area: usize) -> Activated
+    requires { length bids.now ≤ 1024 }
+    ensures up { result.up ≡ sum_in if_up area bids.now amounts.now }
+    ensures down { result.down ≡ sum_in if_down area bids.now amounts.now }
 {
     let mut up = 0;
     let mut down = 0;
-    for (k, bid) in bids.iter().enumerate() {
-        let (more_up, more_down) = share(*bid, amounts[k], area);
-        up += more_up;
-        down += more_down;
+    for (bid, amount) in bids.iter().zip(amounts) {
+        if usize::from(bid.area) == area {
+            match bid.direction {
+                Direction::Up => up += u64::from(*amount),
+                Direction::Down => down += u64::from(*amount),
+            }
+        }
     }
-    (up, down)
+    Activated { up, down }
 }
 
 // The sum of the sizes of satisfied amounts.
 pub fn sum_of_sizes(satisfied: &[i32]) -> u64
     requires { length satisfied.now ≤ 48 }
-    ensures value { result ≡ sizes satisfied.now }
+    ensures value { result ≡ sum_by unsigned_abs satisfied.now }
     ensures small { result ≤ 48 * 2 ^ 32 }
 {
-    let mut sum = 0;
-    for amount in satisfied {
-        sum += u64::from(amount.unsigned_abs());
-    }
-    sum
+    satisfied
+        .iter()
+        .map(|amount| u64::from(amount.unsigned_abs()))
+        .sum()
 }
 
 // The sum of activated amounts.
 pub fn sum_of_amounts(amounts: &[u32]) -> u64
     requires { length amounts.now ≤ 1024 }
-    ensures value { result ≡ total amounts.now }
+    ensures value { result ≡ sum amounts.now }
     ensures small { result ≤ 1024 * 2 ^ 32 }
 {
-    let mut sum = 0;
-    for amount in amounts {
-        sum += u64::from(*amount);
-    }
-    sum
+    amounts.iter().map(|amount| u64::from(*amount)).sum()
 }
 
 // What an amount of a bid is paid: an up bid is paid its price, a down bid pays it.
@@ -86,8 +75,8 @@ pub fn cost_of(bids: &[Bid], amounts: &[u32]) -> i64
     ensures { result ≡ payments bids.now amounts.now }
 {
     let mut cost = 0;
-    for (k, bid) in bids.iter().enumerate() {
-        cost += payment(*bid, amounts[k]);
+    for (bid, amount) in bids.iter().zip(amounts) {
+        cost += payment(*bid, *amount);
     }
     cost
 }

@@ -9,6 +9,13 @@ use std::alloc::{AllocError, Global};
 use std::process::Abort;
 use std::test::Fail;
 
+const BORDER: Border = Border {
+    from: 0,
+    to: 1,
+    forward: 50,
+    backward: 50,
+};
+
 const UP: Bid = Bid {
     area: 0,
     direction: Direction::Up,
@@ -36,16 +43,9 @@ fn example_book(heap: Global) -> Result<Book, AllocError>
     let mut demands = Vec::with_capacity(heap, 48)?;
     let mut borders = Vec::with_capacity(heap, 128)?;
     let mut bids = Vec::with_capacity(heap, 1024)?;
-    demands.push_reserved(80);
-    demands.push_reserved(-120);
-    borders.push_reserved(Border {
-        from: 0,
-        to: 1,
-        forward: 50,
-        backward: 50,
-    });
-    bids.push_reserved(UP);
-    bids.push_reserved(DOWN);
+    demands.extend_from_slice(&[80, -120])?;
+    borders.extend_from_slice(&[BORDER])?;
+    bids.extend_from_slice(&[UP, DOWN])?;
     Ok(Book {
         demands,
         borders,
@@ -56,19 +56,11 @@ fn example_book(heap: Global) -> Result<Book, AllocError>
 fn example_amounts(heap: Global) -> Result<Amounts, AllocError>
     ensures { IfOk result (λ a. selected a ≡ example_selection) }
 {
-    let mut satisfied = Vec::with_capacity(heap, 48)?;
-    let mut flows = Vec::with_capacity(heap, 128)?;
-    let mut activated = Vec::with_capacity(heap, 1024)?;
-    satisfied.push_reserved(80);
-    satisfied.push_reserved(-120);
-    flows.push_reserved(-50);
-    activated.push_reserved(30);
-    activated.push_reserved(70);
-    Ok(Amounts {
-        satisfied,
-        flows,
-        activated,
-    })
+    let mut amounts = Amounts::reserve(heap)?;
+    amounts.satisfied.extend_from_slice(&[80, -120])?;
+    amounts.flows.extend_from_slice(&[-50])?;
+    amounts.activated.extend_from_slice(&[30, 70])?;
+    Ok(amounts)
 }
 
 #[test]

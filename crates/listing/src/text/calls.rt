@@ -3,10 +3,8 @@ ghost use Rattle.std.specs.Prelude.{◌≡◌, [], IfOk};
 ghost use Rattle.listing.specs.Lines.{listing};
 ghost use Rattle.listing.specs.View.{text_of, room_of, case_in, selection_in};
 
-use crate::lines::{push_heading, push_total};
-use crate::tables::{push_areas, push_bids, push_flows};
 use crate::tally::totals;
-use crate::text::Text;
+use crate::text::{ROOM, Text};
 use market::Settled;
 use std::alloc::{AllocError, Global};
 
@@ -16,7 +14,7 @@ impl Text {
         ensures empty { IfOk result (λ t. text_of t ≡ []) }
     {
         Ok(Text {
-            bytes: Vec::with_capacity(heap, 65536)?,
+            bytes: Vec::with_capacity(heap, ROOM)?,
         })
     }
 
@@ -25,13 +23,12 @@ impl Text {
         ensures text { text_of self.new ≡ listing (case_in standing.now) (selection_in standing.now) }
         ensures room { room_of self.new ≡ room_of self.old }
     {
-        let text = &mut self.bytes;
-        text.clear();
-        push_heading(text);
-        push_areas(text, standing);
-        push_flows(text, standing);
-        push_bids(text, standing);
-        push_total(text, totals(standing));
+        self.clear();
+        self.push_heading();
+        self.push_areas(standing);
+        self.push_flows(standing);
+        self.push_bids(standing);
+        self.push_total(totals(standing));
     }
 
     // No text.

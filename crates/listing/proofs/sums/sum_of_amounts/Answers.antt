@@ -1,19 +1,11 @@
-use Rattle.std.proofs.Common.{arith}
-use Rattle.std.proofs.lemmas.List.{at_drop_more, at_drop_all}
-use Rattle.listing.specs.Figures.{sum}
-use Rattle.listing.proofs.Steps.{more, at_end}
+use Rattle.std.proofs.Common.{◌≡◌, ◌^◌, ◌≤◌, sum, arith, rules}
+use Rattle.std.proofs.lemmas.List.Sums.{sum_by-le}
+use Rattle.std.proofs.lemmas.List.Elements.{All-from_get_or}
 use Rattle.listing.proofs.sums.sum_of_amounts.Goals as goal
 
-pub loop-amount-preserved : goal.loop-amount-preserved
-loop-amount-preserved c =
-    let i = c.loop-amount.amount-index in
-    let fits = (c.type_inv.amounts i).fits in (
-      more _ _ _ _ _ _ c.loop-amount.invariant.0 c.from-sum.ensures (at_drop_more sum c.args.amounts.now i 0 c.loop-amount-test.true),
-      omega arith,
-    )
-
-pub returns : goal.returns
-returns c = record {
-  value = at_end _ _ _ c.loop-amount.invariant.0 (at_drop_all sum c.args.amounts.now c.loop-amount.amount-index c.loop-amount-test.false);
-  small = omega arith;
-}
+pub returns-clause-small : goal.returns-clause-small
+returns-clause-small c =
+    let xs = c.args.amounts.now in
+    let value : c.sum.result ≡ sum xs = search rules in
+    let most = sum_by-le (λ n. n) (2 ^ 32) xs (All-from_get_or (λ n. n ≤ 2 ^ 32) xs 0 (λ i _. omega (arith, (c.type_inv.amounts i).fits))) in
+    omega (arith, value, most)

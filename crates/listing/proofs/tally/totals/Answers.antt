@@ -1,7 +1,7 @@
-use Rattle.std.proofs.Common.{length, pos, ◌+ℤ◌, ◌-ℤ◌, sym, ap, ◌∙◌, arith, w64, SFits}
+use Rattle.std.proofs.Common.{length, pos, ◌+ℤ◌, ◌-ℤ◌, sum, sum_by, nat_abs, sym, ap, ◌∙◌, arith, w64, SFits}
 use lib.Signed.{quot_z}
 use Rattle.std.proofs.lemmas.Int.{to_z-of_z}
-use Rattle.listing.specs.Figures.{sizes, sum, payments}
+use Rattle.listing.specs.Figures.{payments}
 use Rattle.listing.specs.View.{selection_in}
 use Rattle.listing.proofs.Signs.{halved}
 use Rattle.listing.proofs.Standing.{known, payable_at}
@@ -25,7 +25,7 @@ returns c =
     let s = selection_in c.args.standing.now in
     let m = c.sum_of_sizes-satisfied.ensures in
     let n = c.sum_of_amounts-activated.ensures in
-    let satisfied = m.value ∙ ap sizes c.as_slice.ensures.value in
+    let satisfied = m.value ∙ ap (sum_by nat_abs) c.as_slice.ensures.value in
     let activated = n.value ∙ ap sum c.as_slice-2.ensures.value in
     let fits : SFits w64 c.cost_of.result = record { sfits = c.cost_of.type_inv } in
     let half =

@@ -1,11 +1,11 @@
-use Rattle.std.proofs.Common.{[], ◌∷◌, length, get_or, pos, codes, decimal, ap, ◌∙◌, arith, w32, SFits, rules}
+use Rattle.std.proofs.Common.{[], ◌∷◌, length, get_or, pos, codes, decimal, refl, ap, ◌∙◌, arith, w32, SFits, rules}
 use Rattle.std.proofs.lemmas.Int.{to_z-of_z}
 use Rattle.std.specs.Fmt.{signed_decimal}
 use Rattle.listing.specs.Lines.{spaced, flow_line}
 use Rattle.listing.specs.View.{selection_in}
 use Rattle.listing.proofs.Rows.{row_more, rows_all}
 use Rattle.listing.proofs.Standing.{known}
-use Rattle.listing.proofs.tables.push_flows.Goals as goal
+use Rattle.listing.proofs.text.Text.push_flows.Goals as goal
 
 pub push_flow-requires : goal.push_flow-requires
 push_flow-requires c =
@@ -19,7 +19,7 @@ loop-border-preserved c =
     let xs = c.deref-flow-items.result.now in
     let fits : SFits w32 (get_or xs k (pos 0)) = search rules in
     let flow = to_z-of_z w32 (get_or xs k (pos 0)) fits ∙ ap (λ ys. get_or ys k (pos 0)) c.deref-flow-items.ensures.value in
-    row_more 48 (flow_line (selection_in c.args.standing.now)) k c.loop-border.invariant
+    row_more 48 (flow_line (selection_in c.args.standing.now)) k c.loop-border.invariant _ refl
     (ap (λ z. spaced (codes "flow" ∷ (decimal k ∷ (signed_decimal z ∷ [])))) flow) c.push_flow.ensures
 
 pub returns : goal.returns

@@ -1,7 +1,7 @@
 use Rattle.std.proofs.Common.{sym, arith}
 use Rattle.std.proofs.lemmas.List.{take_more, take_all}
 use Rattle.listing.proofs.Grown.{one, next, as_piece}
-use Rattle.listing.proofs.writing.push_word.Goals as goal
+use Rattle.listing.proofs.text.Text.push_word.Goals as goal
 
 pub loop-letter-preserved : goal.loop-letter-preserved
 loop-letter-preserved c =

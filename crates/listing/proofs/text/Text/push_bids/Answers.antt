@@ -1,9 +1,9 @@
-use Rattle.std.proofs.Common.{[], ◌∷◌, length, get_or, codes, decimal, ap, arith}
+use Rattle.std.proofs.Common.{[], ◌∷◌, length, get_or, codes, decimal, refl, ap, arith}
 use Rattle.listing.specs.Lines.{spaced, bid_line}
 use Rattle.listing.specs.View.{selection_in}
 use Rattle.listing.proofs.Rows.{row_more, rows_all}
 use Rattle.listing.proofs.Standing.{known}
-use Rattle.listing.proofs.tables.push_bids.Goals as goal
+use Rattle.listing.proofs.text.Text.push_bids.Goals as goal
 
 pub push_bid-requires : goal.push_bid-requires
 push_bid-requires c =
@@ -14,7 +14,7 @@ push_bid-requires c =
 pub loop-bid-preserved : goal.loop-bid-preserved
 loop-bid-preserved c =
     let k = c.loop-bid.bid in
-    row_more 48 (bid_line (selection_in c.args.standing.now)) k c.loop-bid.invariant
+    row_more 48 (bid_line (selection_in c.args.standing.now)) k c.loop-bid.invariant _ refl
     (ap (λ xs. spaced (codes "bid" ∷ (decimal k ∷ (decimal (get_or xs k 0) ∷ [])))) c.deref-amount-items.ensures.value) c.push_bid.ensures
 
 pub returns : goal.returns
