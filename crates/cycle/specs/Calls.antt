@@ -27,8 +27,7 @@ use Rattle.layout.specs.ProposalBytes.{counts_of, proposal_answer, selection_in,
 use Rattle.fitting.specs.Judged.{judged}
 use Rattle.listing.specs.Lines.{listing}
 use Rattle.market.specs.Changes.{revise_answer, revised, limit_answer, limited, withdraw_answer, withdrawn}
-use Rattle.cycle.specs.declared.calls.Answer.{Answer}
-use Rattle.cycle.specs.Sent.{Sent, load, revise, limit, withdraw, submit, read, told, told_amount, read_answer}
+use Rattle.cycle.specs.Sent.{Sent, Answer, load, revise, limit, withdraw, submit, read, told, told_amount, read_answer}
 use Rattle.cycle.specs.States.{State}
 
 abbrev pub after : {X : Type 0} → Result X Refusal → (old new : State) → State

@@ -2,9 +2,10 @@
 --
 --   Sent           a call and its arguments, by value
 --   sent           what a call of the code sends
+--   Answer         what a call answers: the amount of a taken read, none for any other taken call, or the refusal
 --   taken          whether an answer says that the call was taken
 --   told, told_amount
---                  the answer for a result
+--                  the answer of a call that gives nothing back, and that of a read
 --   amount_of      the amount of a selection for an area, border or bid
 --   read_answer    what a read answers
 use Rattle.std.specs.Prelude.{ℕ, Bool, true, false, cond, List, length, ℤ, pos, Some, None, Ok, Err, Option, Result, nat_lt, slice_index, slice_index_or}
@@ -14,8 +15,6 @@ use Rattle.market.specs.Cases.{Case, areas}
 use Rattle.market.specs.Selections.{Selection}
 use Rattle.cycle.specs.declared.calls.Item.{Item}
 use Rattle.cycle.specs.declared.calls.Item.TheVariants.{Area, Border, Bid}
-use Rattle.cycle.specs.declared.calls.Answer.{Answer}
-use Rattle.cycle.specs.declared.calls.Answer.TheVariants.{Taken, Amount, Refused}
 use Rattle.cycle.specs.declared.calls.Call.{Call}
 use Rattle.cycle.specs.declared.calls.Call.TheVariants.{Load, Revise, Limit, Withdraw, Submit, Read}
 
@@ -35,18 +34,20 @@ sent (Withdraw bid) = withdraw bid
 sent (Submit bytes) = submit bytes.now
 sent (Read item) = read item
 
+abbrev pub Answer : Type 0
+Answer = Result (Option ℤ) Refusal
+
 abbrev pub taken : Answer → Bool
-taken Taken = true
-taken (Amount x) = true
-taken (Refused refusal) = false
+taken (Ok amount) = true
+taken (Err refusal) = false
 
 abbrev pub told : Result (Unit {0}) Refusal → Answer
-told (Ok u) = Taken
-told (Err refusal) = Refused refusal
+told (Ok u) = Ok None
+told (Err refusal) = Err refusal
 
 abbrev pub told_amount : Result ℤ Refusal → Answer
-told_amount (Ok x) = Amount x
-told_amount (Err refusal) = Refused refusal
+told_amount (Ok x) = Ok (Some x)
+told_amount (Err refusal) = Err refusal
 
 -- the number by which an area, border or bid is named, whether the case has it, and its amount in a selection
 abbrev pub number_of : Item → ℕ

@@ -1,6 +1,6 @@
 // Calls as values, so that a list of them can be replayed, and what they answer.
 ghost use Rattle.std.specs.Prelude.{◌≡◌};
-ghost use Rattle.cycle.specs.Sent.{number_of, told, told_amount};
+ghost use Rattle.cycle.specs.Sent.{number_of};
 
 use market::Refusal;
 
@@ -29,15 +29,8 @@ pub enum Call<'a> {
     Read(Item),
 }
 
-// What a call answers.
-#[derive(Clone, Copy)]
-pub enum Answer {
-    // taken
-    Taken,
-    // a taken read, with the standing amount
-    Amount(i64),
-    Refused(Refusal),
-}
+// What a call answers: the amount of a taken read, none for any other taken call, or the refusal.
+pub type Answer = Result<Option<i64>, Refusal>;
 
 impl Item {
     // The number that the caller gave.
@@ -46,28 +39,6 @@ impl Item {
     {
         match self {
             Item::Area(number) | Item::Border(number) | Item::Bid(number) => number,
-        }
-    }
-}
-
-impl Answer {
-    // The answer of a call that gives nothing back.
-    pub fn of_call(res: Result<(), Refusal>) -> Self
-        ensures { result ≡ told res }
-    {
-        match res {
-            Ok(()) => Answer::Taken,
-            Err(refusal) => Answer::Refused(refusal),
-        }
-    }
-
-    // The answer of a read.
-    pub fn of_read(res: Result<i64, Refusal>) -> Self
-        ensures { result ≡ told_amount res }
-    {
-        match res {
-            Ok(amount) => Answer::Amount(amount),
-            Err(refusal) => Answer::Refused(refusal),
         }
     }
 }

@@ -1,8 +1,5 @@
 // A closed cycle: nothing changes it, and it releases what stands.
-ghost use Rattle.std.specs.Prelude.{◌≡◌, true};
-ghost use Rattle.market.specs.Held.{held, selected};
-ghost use Rattle.listing.specs.Lines.{listing};
-ghost use Rattle.listing.specs.View.{text_of};
+ghost use Rattle.std.specs.Prelude.{◌≡◌};
 ghost use Rattle.cycle.specs.Calls.{release_answer, released, write_answer, write_after};
 ghost use Rattle.cycle.specs.Sent.{read_answer};
 ghost use Rattle.cycle.specs.Totals.{standing_totals};
@@ -12,7 +9,7 @@ use crate::calls::Item;
 use crate::holdings::Holdings;
 use crate::out::copy_out;
 use listing::{Text, Totals};
-use market::{Refusal, Settled};
+use market::Refusal;
 use std::marker::PhantomData;
 
 #[derive(Drop)]
@@ -52,21 +49,10 @@ impl<S> Closed<S> {
         ensures out { out.new ≡ released (closed_view self.old).case (closed_view self.old).standing out.old }
         ensures same { closed_view self.new ≡ closed_view self.old }
     {
-        if !self.holdings.stands {
+        let Some(standing) = self.holdings.standing() else {
             return Err(Refusal::NothingStands);
-        }
-        render(&self.holdings, &mut self.text);
+        };
+        self.text.render(&standing);
         copy_out(self.text.as_slice(), out)
     }
-}
-
-// The text becomes the listing of what stands.
-fn render(holdings: &Holdings, text: &mut Text)
-    requires { holdings.now.stands ≡ true }
-    ensures { text_of text.new ≡ listing (held holdings.now.book) (selected holdings.now.amounts) }
-{
-    text.render(&Settled {
-        book: &holdings.book,
-        amounts: &holdings.amounts,
-    });
 }

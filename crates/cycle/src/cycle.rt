@@ -47,12 +47,8 @@ impl<S: Scale> Cycle<S> {
         ensures answer { result ≡ load_answer S.Scale.meaning bytes.now }
         ensures after { view self.new ≡ after result (view self.old) (loaded bytes.now) }
     {
-        // Nothing stands while the book changes; a refusal leaves the book and what stood.
-        let stood = self.holdings.stands;
-        self.holdings.stands = false;
-        let answer = layout::load(&mut self.holdings.book, bytes, S::bids_take_part());
-        self.holdings.stands = stood && answer.is_err();
-        answer
+        self.holdings
+            .change(|book| layout::load(book, bytes, S::bids_take_part()))
     }
 
     // Sets an area's demand, and ends what stood.
@@ -60,11 +56,7 @@ impl<S: Scale> Cycle<S> {
         ensures answer { result ≡ revise_answer (view self.old).case area demand }
         ensures after { view self.new ≡ after result (view self.old) (changed (revised (view self.old).case area demand)) }
     {
-        let stood = self.holdings.stands;
-        self.holdings.stands = false;
-        let answer = self.holdings.book.revise(area, demand);
-        self.holdings.stands = stood && answer.is_err();
-        answer
+        self.holdings.change(|book| book.revise(area, demand))
     }
 
     // Sets a border's two limits, and ends what stood.
@@ -72,11 +64,8 @@ impl<S: Scale> Cycle<S> {
         ensures answer { result ≡ limit_answer (view self.old).case border forward backward }
         ensures after { view self.new ≡ after result (view self.old) (changed (limited (view self.old).case border forward backward)) }
     {
-        let stood = self.holdings.stands;
-        self.holdings.stands = false;
-        let answer = self.holdings.book.limit(border, forward, backward);
-        self.holdings.stands = stood && answer.is_err();
-        answer
+        self.holdings
+            .change(|book| book.limit(border, forward, backward))
     }
 
     // Makes a bid's volume 0, and ends what stood.
@@ -84,11 +73,7 @@ impl<S: Scale> Cycle<S> {
         ensures answer { result ≡ withdraw_answer (view self.old).case bid }
         ensures after { view self.new ≡ after result (view self.old) (changed (withdrawn (view self.old).case bid)) }
     {
-        let stood = self.holdings.stands;
-        self.holdings.stands = false;
-        let answer = self.holdings.book.withdraw(bid);
-        self.holdings.stands = stood && answer.is_err();
-        answer
+        self.holdings.change(|book| book.withdraw(bid))
     }
 
     // Makes the selection in the bytes the standing one, if the prices sent with it show that nothing beats it.
@@ -97,19 +82,10 @@ impl<S: Scale> Cycle<S> {
         ensures after { view self.new ≡ after result (view self.old) (submitted (view self.old).case bytes.now) }
         ensures unbeaten { result ≡ Ok tt → Unbeaten S.Scale.meaning (view self.old).case (proposed (view self.old).case bytes.now) }
     {
-        self.settle(bytes)
-    }
-
-    // Asks every question, and only then keeps the amounts.
-    fn settle(&mut self, bytes: &[u8]) -> Result<(), Refusal>
-        ensures answer { result ≡ submit_answer S.Scale.meaning (view self.old).case bytes.now }
-        ensures after { view self.new ≡ after result (view self.old) (submitted (view self.old).case bytes.now) }
-    {
         let counts = counts(&self.holdings.book);
         let proposal = layout::read_proposal(bytes, counts, S::levels())?;
         fitting::judge::<S>(&self.holdings.book, &proposal)?;
-        layout::keep(&mut self.holdings.amounts, &proposal);
-        self.holdings.stands = true;
+        self.holdings.stand(&proposal);
         Ok(())
     }
 
@@ -126,15 +102,14 @@ impl<S: Scale> Cycle<S> {
         ensures after { view self.new ≡ next S.Scale.meaning (view self.old) (sent call.entry) }
     {
         match call {
-            Call::Load(bytes) => Answer::of_call(self.load(bytes)),
-            Call::Revise(area, demand) => Answer::of_call(self.revise(area, demand)),
-            Call::Limit(border, forward, backward) => Answer::of_call(self.limit(
-                border, forward, backward,
-            )),
-            Call::Withdraw(bid) => Answer::of_call(self.withdraw(bid)),
-            Call::Submit(bytes) => Answer::of_call(self.submit(bytes)),
-            Call::Read(item) => Answer::of_read(self.read(item)),
+            Call::Load(bytes) => self.load(bytes)?,
+            Call::Revise(area, demand) => self.revise(area, demand)?,
+            Call::Limit(border, forward, backward) => self.limit(border, forward, backward)?,
+            Call::Withdraw(bid) => self.withdraw(bid)?,
+            Call::Submit(bytes) => self.submit(bytes)?,
+            Call::Read(item) => return self.read(item).map(Some),
         }
+        Ok(None)
     }
 
     // Puts the bytes of the case into a buffer; says how many they are.

@@ -2,6 +2,7 @@
 #![tactic(auto)]
 
 mod calls;
+mod changing;
 mod closed;
 mod cycle;
 mod holdings;

@@ -1,7 +1,8 @@
 // Reading what stands: an amount, or the totals.
-ghost use Rattle.std.specs.Prelude.{◌≡◌, pos, if◌then◌else◌, Some, None, slice_index, slice_index_or};
+ghost use Rattle.std.specs.Prelude.{◌≡◌, true, IfSome};
 ghost use Rattle.std.specs.Option.{option_map};
-ghost use Rattle.market.specs.Held.{held, selected};
+ghost use Rattle.market.specs.Held.{held};
+ghost use Rattle.listing.specs.View.{case_in, selection_in};
 ghost use Rattle.cycle.specs.Sent.{read_answer, known, amount_of};
 ghost use Rattle.cycle.specs.View.{state_of};
 ghost use Rattle.cycle.specs.Totals.{standing_totals};
@@ -9,72 +10,62 @@ ghost use Rattle.cycle.specs.Totals.{standing_totals};
 use crate::calls::Item;
 use crate::holdings::Holdings;
 use listing::{Totals, totals};
-use market::{Refusal, Settled};
+use market::{Book, Refusal, Settled};
 
 impl Holdings {
+    // What stands, lent for reading; none where nothing stands.
+    pub fn standing(&self) -> Option<Settled<'_, '_>>
+        ensures selection { option_map selection_in result ≡ (state_of self.now).standing }
+        ensures case { IfSome result (λ s. case_in s ≡ (state_of self.now).case) }
+    {
+        if self.stands {
+            Some(Settled {
+                book: &self.book,
+                amounts: &self.amounts,
+            })
+        } else {
+            None
+        }
+    }
+
     // The standing amount of an area, border or bid of the cycle.
     pub fn read(&self, item: Item) -> Result<i64, Refusal>
         ensures { result ≡ read_answer (state_of self.now).case (state_of self.now).standing item }
     {
-        let Some(amount) = self.amount(item) else {
+        if !is_known(&self.book, item) {
             return Err(Refusal::Unknown(item.number()));
-        };
-        if !self.stands {
-            return Err(Refusal::NothingStands);
         }
-        Ok(amount)
-    }
-
-    // The amount that is kept for an area, border or bid, if the cycle has it.
-    fn amount(&self, item: Item) -> Option<i64>
-        ensures { result ≡ (if known (held self.now.book) item then Some (amount_of (selected self.now.amounts) item) else None) }
-    {
-        match item {
-            Item::Area(area) if area < self.book.demands.len() => {
-                Some(signed_at(self.amounts.satisfied.as_slice(), area))
-            }
-            Item::Border(border) if border < self.book.borders.len() => {
-                Some(signed_at(self.amounts.flows.as_slice(), border))
-            }
-            Item::Bid(bid) if bid < self.book.bids.len() => {
-                Some(unsigned_at(self.amounts.activated.as_slice(), bid))
-            }
-            _ => None,
-        }
+        let standing = self.standing().ok_or(Refusal::NothingStands)?;
+        Ok(amount(&standing, item))
     }
 
     // The totals of what stands; none where nothing stands.
     pub fn totals(&self) -> Option<Totals>
         ensures { result ≡ standing_totals (state_of self.now) }
     {
-        if self.stands {
-            Some(totals(&Settled {
-                book: &self.book,
-                amounts: &self.amounts,
-            }))
-        } else {
-            None
-        }
+        self.standing().map(|standing| totals(&standing))
     }
 }
 
-// The amount at a place; 0 past the last.
-fn signed_at(amounts: &[i32], place: usize) -> i64
-    ensures { result ≡ slice_index_or amounts.now place (pos 0) }
+// Does the case have the area, border or bid?
+fn is_known(book: &Book, item: Item) -> bool
+    ensures { result ≡ known (held book.now) item }
 {
-    if place < amounts.len() {
-        i64::from(amounts[place])
-    } else {
-        0
+    match item {
+        Item::Area(area) => area < book.demands.len(),
+        Item::Border(border) => border < book.borders.len(),
+        Item::Bid(bid) => bid < book.bids.len(),
     }
 }
 
-fn unsigned_at(amounts: &[u32], place: usize) -> i64
-    ensures { result ≡ pos (slice_index amounts.now place) }
+// The amount of an area, border or bid of the case.
+fn amount(standing: &Settled, item: Item) -> i64
+    requires { known (case_in standing.now) item ≡ true }
+    ensures { result ≡ amount_of (selection_in standing.now) item }
 {
-    if place < amounts.len() {
-        i64::from(amounts[place])
-    } else {
-        0
+    match item {
+        Item::Area(area) => i64::from(standing.amounts.satisfied.as_slice()[area]),
+        Item::Border(border) => i64::from(standing.amounts.flows.as_slice()[border]),
+        Item::Bid(bid) => i64::from(standing.amounts.activated.as_slice()[bid]),
     }
 }
