@@ -29,7 +29,6 @@ pub record Taken (m : Meaning) (c : Case) (bs : List ℕ) (p : Proposal) : Type 
   pub answer : Ok tt ≡ submit_answer m c bs
   pub same : selection_held p ≡ proposed c bs
   pub counts : OneForEach c (selection_held p)
-  pub enough : few p ≡ true
   pub within : WithinLimits c (selection_held p)
 
 module _ (m : Meaning) (c : Case) (bs : List ℕ) where
@@ -74,17 +73,6 @@ module _ (m : Meaning) (c : Case) (bs : List ℕ) (p : Proposal) where
   answered : proposal_answer (counts_of c) m.levels bs ≡ Ok tt → Holds (counts_of c) m.levels bs p → submit_answer m c bs ≡ judged m c (selection_held p) (price_held m p)
   answered e holds = ap (λ (r : Result (Unit {0}) Refusal). and_then r (judged m c (proposed c bs) (price_in m c bs))) e ∙ sym (judged_same holds)
 
-  few_held : Valid c → OneForEach c (selection_held p) → few p ≡ true
-  few_held valid counts =
-      let a = counts.satisfied_count in
-      let b = counts.flows_count in
-      let o = counts.activated_count in
-      let la = length_table signed_word 4 (length (satisfied_bytes p) / 4) (satisfied_bytes p) in
-      let lb = length_table signed_word 4 (length (flows_bytes p) / 4) (flows_bytes p) in
-      let lo = length_table little_endian 4 (length (activated_bytes p) / 4) (activated_bytes p) in
-      and_from _ _ (le-leb _ _ (subst (λ (n : ℕ). n ≤ 48) (sym a ∙ la) valid.few_areas))
-      (and_from _ _ (le-leb _ _ (subst (λ (n : ℕ). n ≤ 128) (sym b ∙ lb) valid.few_borders)) (le-leb _ _ (subst (λ (n : ℕ). n ≤ 1024) (sym o ∙ lo) valid.few_bids)))
-
   module _ (n : Counts) (l : ℕ) (counts_is : n ≡ counts_of c) (levels_is : l ≡ m.levels) (read : Ok tt ≡ proposal_answer n l bs) (holds : Holds n l bs p) where
     read_here : proposal_answer (counts_of c) m.levels bs ≡ Ok tt
     read_here = sym (read ∙ (ap (λ (k : Counts). proposal_answer k l bs) counts_is ∙ ap (λ (k : ℕ). proposal_answer (counts_of c) k bs) levels_is))
@@ -95,13 +83,22 @@ module _ (m : Meaning) (c : Case) (bs : List ℕ) (p : Proposal) where
     pub submit_answered : (r : Result (Unit {0}) Refusal) → r ≡ judged m c (selection_held p) (price_held m p) → r ≡ submit_answer m c bs
     submit_answered r e = e ∙ sym (answered read_here holds_here)
 
-    pub submit_taken : ∥ Valid c ∥₁ → Ok tt ≡ judged m c (selection_held p) (price_held m p) → Taken m c bs p
-    submit_taken valid e =
+    pub submit_taken : Ok tt ≡ judged m c (selection_held p) (price_held m p) → Taken m c bs p
+    submit_taken e =
         let counts : OneForEach c (selection_held p) = counted read_here holds_here in
         record {
           answer = submit_answered (Ok tt) e;
           same = selection_same holds_here;
           counts = counts;
-          enough = ∥∥₁_elim valid (Bool-set _ _) (λ v. few_held v counts);
           within = within_from_passed m c (selection_held p) (price_held m p) counts (passed_from_judged m c (selection_held p) (price_held m p) (sym e));
         }
+
+-- amounts within the limits of a book are no more than a case can have
+pub few_within : (c : Case) (p : Proposal) → ∥ Valid c ∥₁ → ∥ WithinLimits c (selection_held p) ∥₁ → few p ≡ true
+few_within c p valid fits = ∥∥₁_elim valid (Bool-set _ _) (λ v. ∥∥₁_elim fits (Bool-set _ _) (λ within.
+    let la = length_table signed_word 4 (length (satisfied_bytes p) / 4) (satisfied_bytes p) in
+    let lb = length_table signed_word 4 (length (flows_bytes p) / 4) (flows_bytes p) in
+    let lo = length_table little_endian 4 (length (activated_bytes p) / 4) (activated_bytes p) in
+    and_from _ _ (le-leb _ _ (subst (λ (n : ℕ). n ≤ 48) (sym within.satisfied_count ∙ la) v.few_areas))
+    (and_from _ _ (le-leb _ _ (subst (λ (n : ℕ). n ≤ 128) (sym within.flows_count ∙ lb) v.few_borders))
+    (le-leb _ _ (subst (λ (n : ℕ). n ≤ 1024) (sym within.activated_count ∙ lo) v.few_bids)))))

@@ -1,9 +1,9 @@
 // What changes in a cycle: its case, and what stands.
-ghost use Rattle.std.specs.Prelude.{◌≡◌, true, Some, Err};
+ghost use Rattle.std.specs.Prelude.{◌≡◌, Some, Err};
 ghost use Rattle.std.specs.Fn.{FnOnceReturnsAtMut};
 ghost use Rattle.market.specs.Held.{held};
 ghost use Rattle.market.specs.Selections.{WithinLimits};
-ghost use Rattle.layout.specs.Sections.{few, selection_held};
+ghost use Rattle.layout.specs.Sections.{selection_held};
 ghost use Rattle.cycle.specs.Calls.{after, changed};
 ghost use Rattle.cycle.specs.View.{state_of};
 
@@ -33,9 +33,9 @@ impl Holdings {
     }
 
     // From now on the selection of the proposal stands.
+    #[tactic(auto, using(crate::proofs::Submitted::few_within))]
     pub(crate) fn stand(&mut self, proposal: &Proposal)
-        requires few { few proposal.now ≡ true }
-        requires within { WithinLimits (held self.old.book) (selection_held proposal.now) }
+        requires { ∥ WithinLimits (held self.old.book) (selection_held proposal.now) ∥₁ }
         ensures { state_of self.new ≡ record { case = held self.old.book; standing = Some (selection_held proposal.now) } }
     {
         layout::keep(&mut self.amounts, proposal);

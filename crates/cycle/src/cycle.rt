@@ -1,4 +1,4 @@
-// A cycle, made for one scale of cost.
+// A cycle, made for one scale of cost: open at first, and closed in the end.
 ghost use Rattle.std.specs.Prelude.{◌≡◌, IfOk, Ok};
 ghost use Rattle.market.specs.Held.{held};
 ghost use Rattle.market.specs.Totals.{Unbeaten};
@@ -8,10 +8,9 @@ ghost use Rattle.cycle.specs.Calls.{after, load_answer, loaded, submit_answer, s
 ghost use Rattle.cycle.specs.Sent.{sent, read_answer};
 ghost use Rattle.market.specs.Changes.{revise_answer, revised, limit_answer, limited, withdraw_answer, withdrawn};
 ghost use Rattle.cycle.specs.Totals.{standing_totals};
-ghost use Rattle.cycle.specs.View.{view, closed_view};
+ghost use Rattle.cycle.specs.View.{view};
 
 use crate::calls::{Answer, Call, Item};
-use crate::closed::Closed;
 use crate::holdings::Holdings;
 use layout::Counts;
 use listing::{Text, Totals};
@@ -20,13 +19,47 @@ use scale::Scale;
 use std::alloc::{AllocError, Global};
 use std::marker::PhantomData;
 
+// The two phases of a cycle, of which no value is ever made.
+pub enum Open {}
+
+pub enum Shut {}
+
 // Not `Copy`: `close` takes it away.
 #[derive(Drop)]
-pub struct Cycle<S> {
+pub struct Cycle<S, P = Open> {
     pub(crate) holdings: Holdings,
     // room for the listing
     pub(crate) text: Text,
     pub(crate) scale: PhantomData<S>,
+    pub(crate) phase: PhantomData<P>,
+}
+
+// A closed cycle: nothing changes it, and it releases what stands.
+pub type Closed<S> = Cycle<S, Shut>;
+
+// What a cycle answers in either phase.
+impl<S, P> Cycle<S, P> {
+    // The standing amount of an area, border or bid.
+    pub fn read(&self, item: Item) -> Result<i64, Refusal>
+        ensures { result ≡ read_answer (view self.now).case (view self.now).standing item }
+    {
+        self.holdings.read(item)
+    }
+
+    // Puts the bytes of the case into a buffer; says how many they are.
+    pub fn write(&self, out: &mut [u8]) -> Result<usize, Refusal>
+        ensures answer { result ≡ write_answer (view self.now).case out.old }
+        ensures out { out.new ≡ write_after (view self.now).case out.old }
+    {
+        writing::write_case(&self.holdings.book, out)
+    }
+
+    // The totals of what stands; none where nothing stands.
+    pub fn totals(&self) -> Option<Totals>
+        ensures { result ≡ standing_totals (view self.now) }
+    {
+        self.holdings.totals()
+    }
 }
 
 impl<S: Scale> Cycle<S> {
@@ -34,11 +67,11 @@ impl<S: Scale> Cycle<S> {
     pub fn new(heap: Global) -> Result<Self, AllocError>
         ensures fresh { IfOk result (λ c. view c ≡ fresh) }
     {
-        let text = Text::reserve(heap)?;
         Ok(Cycle {
             holdings: Holdings::reserve(heap)?,
-            text,
+            text: Text::reserve(heap)?,
             scale: PhantomData,
+            phase: PhantomData,
         })
     }
 
@@ -89,13 +122,6 @@ impl<S: Scale> Cycle<S> {
         Ok(())
     }
 
-    // The standing amount of an area, border or bid.
-    pub fn read(&self, item: Item) -> Result<i64, Refusal>
-        ensures { result ≡ read_answer (view self.now).case (view self.now).standing item }
-    {
-        self.holdings.read(item)
-    }
-
     // Makes any of these calls.
     pub fn make(&mut self, call: Call) -> Answer
         ensures answer { result ≡ answer_to S.Scale.meaning (view self.old) (sent call.entry) }
@@ -112,34 +138,21 @@ impl<S: Scale> Cycle<S> {
         Ok(None)
     }
 
-    // Puts the bytes of the case into a buffer; says how many they are.
-    pub fn write(&self, out: &mut [u8]) -> Result<usize, Refusal>
-        ensures answer { result ≡ write_answer (view self.now).case out.old }
-        ensures out { out.new ≡ write_after (view self.now).case out.old }
-    {
-        writing::write_case(&self.holdings.book, out)
-    }
-
-    // The totals of what stands; none where nothing stands.
-    pub fn totals(&self) -> Option<Totals>
-        ensures { result ≡ standing_totals (view self.now) }
-    {
-        self.holdings.totals()
-    }
-
     // Takes the cycle away and gives a closed one, which can release what stands.
     pub fn close(self) -> Closed<S>
-        ensures { closed_view result ≡ view self }
+        ensures { view result ≡ view self }
     {
         let Cycle {
             holdings,
             text,
             scale,
+            phase: _,
         } = self;
-        Closed {
+        Cycle {
             holdings,
             text,
             scale,
+            phase: PhantomData,
         }
     }
 }

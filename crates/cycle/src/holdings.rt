@@ -10,6 +10,7 @@ use market::{Amounts, Book};
 pub struct Holdings {
     pub book: Book,
     pub amounts: Amounts,
+    // a flag beside the amounts, since their room stays reserved where none stand
     pub stands: bool,
     ghost within: { (stands ≡ true → ∥ WithinLimits (held book) (selected amounts) ∥₁) },
 }

@@ -11,5 +11,4 @@ mod reserve;
 mod standing;
 
 pub use calls::{Answer, Call, Item};
-pub use closed::Closed;
-pub use cycle::Cycle;
+pub use cycle::{Closed, Cycle, Open, Shut};

@@ -13,6 +13,6 @@ pub fn copy_out(text: &[u8], out: &mut [u8]) -> Result<usize, Refusal>
     if needed > out.len() {
         return Err(Refusal::Room(needed));
     }
-    out[0..needed].copy_from_slice(text);
+    out[..needed].copy_from_slice(text);
     Ok(needed)
 }

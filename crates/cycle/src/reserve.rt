@@ -12,9 +12,8 @@ impl Holdings {
     pub fn reserve(heap: Global) -> Result<Self, AllocError>
         ensures { IfOk result (λ h. state_of h ≡ fresh) }
     {
-        let book = Book::reserve(heap)?;
         Ok(Holdings {
-            book,
+            book: Book::reserve(heap)?,
             amounts: Amounts::reserve(heap)?,
             stands: false,
         })

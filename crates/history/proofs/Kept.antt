@@ -21,7 +21,6 @@ use Rattle.records.specs.Headers.{proposal_header_of}
 use Rattle.layout.specs.ProposalBytes.{counts_of, starts, count_right, section_right, proposal_answer}
 use Rattle.layout.proofs.Cases.{taken_valid}
 use Rattle.fitting.specs.Judged.{judged}
-use Rattle.cycle.specs.declared.calls.Answer.TheVariants.{Taken}
 use Rattle.cycle.specs.States.{State}
 use Rattle.cycle.specs.Sent.{Sent, load, revise, limit, withdraw, submit, read, taken, told}
 use Rattle.cycle.specs.Calls.{answer_to, submit_answer, proposed, price_in}
@@ -32,9 +31,9 @@ use Rattle.cycle.proofs.Submitted.{submit_unbeaten}
 -- a call that answers taken got a yes
 yes_taken : (r : Result (Unit {0}) Refusal) → taken (told r) ≡ true → r ≡ Ok tt
 yes_taken (Ok tt) e = refl
-yes_taken (Err x) e = absurd (let z : ◌≡◌ {A = ℕ} 0 1 = cc in omega arith)
+yes_taken (Err x) e = cc
 
-yes_told : (r : Result (Unit {0}) Refusal) → told r ≡ Taken → r ≡ Ok tt
+yes_told : (r : Result (Unit {0}) Refusal) → told r ≡ Ok None → r ≡ Ok tt
 yes_told r e = yes_taken r (ap taken e)
 
 -- no proposal is taken on a scale of more than 16 levels
@@ -50,7 +49,7 @@ few_levels_taken m c bs e =
 
 asked : {E : Type 0} (b : Bool) (x : E) → ask_one b x ≡ Ok tt → T b
 asked true x e = tt
-asked false x e = absurd (let z : ◌≡◌ {A = ℕ} 0 1 = cc in omega arith)
+asked false x e = cc
 
 -- the case in force is valid
 made_valid : (m : Meaning) (st : State) (call : Sent) → Valid st.case → taken (answer_to m st call) ≡ true → Valid (made_of call st.case)
@@ -79,7 +78,7 @@ valid_in_force m (step ∷ earlier) (rule, lawful) =
 
 -- what stands is unbeaten
 none_some : {X : Type 0} {Y : Type 0} (s : X) → ◌≡◌ {A = Option X} None (Some s) → Y
-none_some s e = absurd (let z : ◌≡◌ {A = ℕ} 0 1 = cc in omega arith)
+none_some s e = cc
 
 abbrev Best : Meaning → Case → Option Selection → Type 0
 Best m c o = (s : Selection) → o ≡ Some s → Unbeaten m c s

@@ -12,7 +12,7 @@
 --   Sound             what stands is unbeaten, and just the unbeaten selections have prices that let submit take them
 --   Throughout        that after every call so far
 --   Kept              the promise
-use Rattle.std.specs.Prelude.{◌≡◌, ℕ, ◌≤◌, cond, T, List, [], ◌∷◌, map, length, Some, None, Option}
+use Rattle.std.specs.Prelude.{◌≡◌, ℕ, ◌≤◌, cond, T, List, [], ◌∷◌, map, length, Some, None, Ok, Option}
 use Rattle.std.specs.List.{AllByRecursion}
 use Rattle.scale.specs.Meaning.{Meaning}
 use Rattle.market.specs.Cases.{Case, case_of, areas}
@@ -21,9 +21,7 @@ use Rattle.market.specs.Selections.{Selection, WithinLimits}
 use Rattle.market.specs.Totals.{Unbeaten}
 use Rattle.layout.specs.CaseBytes.{case_in}
 use Rattle.layout.specs.ProposalBytes.{counts_of, proposal_bytes}
-use Rattle.cycle.specs.declared.calls.Answer.{Answer}
-use Rattle.cycle.specs.declared.calls.Answer.TheVariants.{Taken}
-use Rattle.cycle.specs.Sent.{Sent, load, revise, limit, withdraw, submit, read, taken}
+use Rattle.cycle.specs.Sent.{Sent, Answer, load, revise, limit, withdraw, submit, read, taken}
 use Rattle.cycle.specs.Calls.{answer_to, proposed}
 
 pub record Step : Type 0 where
@@ -94,7 +92,7 @@ pub record LetTaken (m : Meaning) (h : History) (s : Selection) : Type 0 where
   pub prices : List m.Value
   pub one_for_each : length prices ≡ areas (in_force h)
   pub in_range : AllByRecursion (λ v. T (m.in_range v)) prices
-  pub taken : by_the_rules m h (submit (sent_with m (in_force h) s prices)) ≡ Taken
+  pub taken : by_the_rules m h (submit (sent_with m (in_force h) s prices)) ≡ Ok None
 
 -- what holds after a history
 pub record Sound (m : Meaning) (h : History) : Type 0 where

@@ -3,9 +3,8 @@
 --   history_of     the history that calls and their answers add to earlier steps
 --   state_after    what a cycle holds after a history: the case in force, and what stands
 use Rattle.std.specs.Prelude.{List, [], ◌∷◌}
-use Rattle.cycle.specs.declared.calls.Answer.{Answer}
 use Rattle.cycle.specs.declared.calls.Call.{Call}
-use Rattle.cycle.specs.Sent.{sent}
+use Rattle.cycle.specs.Sent.{Answer, sent}
 use Rattle.cycle.specs.States.{State}
 use Rattle.history.specs.Histories.{Step, History, in_force, standing}
 

@@ -2,7 +2,7 @@ use Rattle.std.proofs.Common.{Some, ap, ◌∙◌}
 use Rattle.market.specs.Held.{held}
 use Rattle.listing.specs.View.{selection_in}
 use Rattle.cycle.specs.Calls.{put, released}
-use Rattle.cycle.proofs.closed.Closed.release.Goals as goal
+use Rattle.cycle.proofs.closed.Closed+S.release.Goals as goal
 
 pub returns-clause-out : goal.returns-clause-out
 returns-clause-out g c =
