@@ -1,5 +1,5 @@
 -- What the questions on the bytes of a case say, and what its reader holds. Assumes nothing.
-use Rattle.std.proofs.Common.{◌≡◌, ℕ, ◌+◌, ◌*◌, ◌/◌, ◌<◌, ◌≤◌, Bool, true, false, cond, ◌&&◌, T, eqb, leb, List, length, get_or, take, drop, ℤ, pos, Some, None, Ok, Err, Result, sym, refl, ap, ◌∙◌, subst, arith, eq-eqb, eqb-true, leb-true}
+use Rattle.std.proofs.Common.{◌≡◌, ℕ, zero, suc, ◌+◌, ◌*◌, ◌/◌, ◌<◌, ◌≤◌, Bool, true, false, cond, ◌&&◌, T, eqb, leb, List, length, get_or, take, drop, ℤ, pos, is_ok, Some, None, Ok, Err, Result, sym, refl, ap, ◌∙◌, subst, arith, eq-eqb, eqb-true, leb-true, rules}
 use Rattle.std.specs.List.{AllByRecursion}
 use Rattle.std.proofs.lemmas.List.{drop-drop, take-take, drop-take}
 use Rattle.std.proofs.ByRecursion.{All-from_get_or}
@@ -8,6 +8,7 @@ use Rattle.market.specs.declared.refusal.Refusal.TheVariants.{Header, Kind, Coun
 use Rattle.market.specs.declared.trade.Border.{Border}
 use Rattle.market.specs.declared.trade.Bid.{Bid}
 use Rattle.market.specs.Cases.{Case, Valid, case_of, areas, no_border, no_bid, demand_at, border_at, bid_at, demand_in_range, ends_known, limits_in_range, bid_known, bid_in_range}
+use Rattle.market.specs.Directions.{direction_numbered}
 use Rattle.market.specs.First.{and_then, ask, ask_one}
 use Rattle.scale.specs.Levels.{little_endian}
 use Rattle.records.specs.declared.header.CaseHeader.{CaseHeader}
@@ -91,6 +92,12 @@ direction_part bs k offset =
     ∙ (take-take 2 10 (drop 2 (drop (12 * k) (drop offset bs))) (omega arith)
     ∙ ap (take 2) (ap (drop 2) (drop-drop (12 * k) offset bs) ∙ drop-drop 2 (offset + 12 * k) bs))
 
+-- 0 and 1 are the numbers that a direction has
+direction_numbered_ok : (n : ℕ) → is_ok (direction_numbered n) ≡ leb n 1
+direction_numbered_ok zero = refl
+direction_numbered_ok (suc zero) = refl
+direction_numbered_ok (suc (suc n)) = search rules
+
 -- what the reader of taken bytes holds
 module _ (h : CaseHeader) (bs : List ℕ) (r : CaseReader) (is : h ≡ case_header_of bs) (end : length bs ≡ end_by h) (parts : Parts h bs r) where
   pub case_read_is : case_read r ≡ case_in bs
@@ -112,9 +119,10 @@ module _ (h : CaseHeader) (bs : List ℕ) (r : CaseReader) (is : h ≡ case_head
       ap (records raw_direction 12) parts.bids ∙ records_part raw_direction 12 h.bids (bids_start h) bs (omega arith) (omega arith) in
       let at : get_or (directions_read r) k no_direction ≡ raw_direction (part (12 * k) 12 (drop (bids_start h) bs)) =
       ap (λ l. get_or l k no_direction) list ∙ getD_table raw_direction 12 h.bids k (drop (bids_start h) bs) no_direction below in
-      ap (λ d. leb d.number 1) at
+      ap is_ok at
+      ∙ (direction_numbered_ok (little_endian (part 2 2 (part (12 * k) 12 (drop (bids_start h) bs))))
       ∙ (ap (λ p. leb (little_endian p) 1) (direction_part bs k (bids_start h))
-      ∙ ap (λ x. leb (little_endian (part (bids_start x + 12 * k + 2) 2 bs)) 1) is)
+      ∙ ap (λ x. leb (little_endian (part (bids_start x + 12 * k + 2) 2 bs)) 1) is))
 
   pub records_answer_same : records_answer (case_read r) (direction_fine r) ≡ records_answer (case_in bs) (direction_known bs)
   records_answer_same =

@@ -7,7 +7,7 @@ ghost use Rattle.layout.specs.Sections.{section_bytes, satisfied_bytes, flows_by
 
 use super::table::fill;
 use market::{Amounts, Refusal, ask};
-use records::{ProposalHeader, proposal_header, record_at};
+use records::{ProposalHeader, Record, proposal_header, record_at};
 
 // How many areas, borders and bids a case has.
 #[derive(Clone, Copy, PartialEq, Eq, Debug)]
@@ -153,21 +153,21 @@ impl<'a> Proposal<'a> {
     pub fn satisfied(&self, area: usize) -> i32
         ensures { result ≡ slice_index_or (signed_amounts (satisfied_bytes self.now)) area (pos 0) }
     {
-        record_at::<i32>(self.satisfied.bytes(), area).unwrap_or(0)
+        record_at::<i32>(self.satisfied.bytes(), area).unwrap_or_default()
     }
 
     // The flow of a border; 0 past the last.
     pub fn flow(&self, border: usize) -> i32
         ensures { result ≡ slice_index_or (signed_amounts (flows_bytes self.now)) border (pos 0) }
     {
-        record_at::<i32>(self.flows.bytes(), border).unwrap_or(0)
+        record_at::<i32>(self.flows.bytes(), border).unwrap_or_default()
     }
 
     // The activated amount of a bid; 0 past the last.
     pub fn activated(&self, bid: usize) -> u32
         ensures { result ≡ slice_index (unsigned_amounts (activated_bytes self.now)) bid }
     {
-        record_at::<u32>(self.activated.bytes(), bid).unwrap_or(0)
+        record_at::<u32>(self.activated.bytes(), bid).unwrap_or_default()
     }
 
     // The bytes of the price of an area: eight for each level; none past the last.
@@ -190,7 +190,10 @@ pub fn keep(amounts: &mut Amounts, proposal: &Proposal) -> bool
     let satisfied = proposal.satisfied.bytes();
     let flows = proposal.flows.bytes();
     let activated = proposal.activated.bytes();
-    if satisfied.len() / 4 > 48 || flows.len() / 4 > 128 || activated.len() / 4 > 1024 {
+    if satisfied.len() / i32::SIZE > 48
+        || flows.len() / i32::SIZE > 128
+        || activated.len() / u32::SIZE > 1024
+    {
         return false;
     }
     fill(&mut amounts.satisfied, satisfied);

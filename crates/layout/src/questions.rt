@@ -92,7 +92,7 @@ pub fn ask_origins(case: CaseReader) -> Result<(), Refusal>
     ask(
         case.bids(),
         |place| {
-            usize::from(case.bid(place).area) < case.areas() && case.direction(place).number <= 1
+            usize::from(case.bid(place).area) < case.areas() && case.direction(place).is_ok()
         },
         Refusal::Origin,
     )

@@ -4,7 +4,7 @@ ghost use Rattle.market.specs.Cases.{areas, demand_at, border_at, bid_at};
 ghost use Rattle.layout.specs.CaseReaders.{case_read, directions_read, no_direction};
 
 use market::{Bid, Border, Direction};
-use records::{BidDirection, record_at};
+use records::{BidDirection, Record, record_at};
 
 // A case, read straight from its bytes: the parts of its areas, its borders and its bids.
 #[derive(Clone, Copy)]
@@ -19,58 +19,48 @@ impl<'a> CaseReader<'a> {
     pub fn areas(&self) -> usize
         ensures { result ≡ areas (case_read self.now) }
     {
-        self.demands.len() / 4
+        self.demands.len() / i32::SIZE
     }
 
     // The demand of an area; 0 past the last.
     pub fn demand(&self, area: usize) -> i32
         ensures { result ≡ demand_at (case_read self.now) area }
     {
-        record_at::<i32>(self.demands, area).unwrap_or(0)
+        record_at::<i32>(self.demands, area).unwrap_or_default()
     }
 
     // How many borders there are.
     pub fn borders(&self) -> usize
         ensures { result ≡ length (case_read self.now).borders }
     {
-        self.borders.len() / 12
+        self.borders.len() / Border::SIZE
     }
 
     // A border; one of zeros past the last.
     pub fn border(&self, border: usize) -> Border
         ensures { result ≡ border_at (case_read self.now) border }
     {
-        record_at::<Border>(self.borders, border).unwrap_or(Border {
-            from: 0,
-            to: 0,
-            forward: 0,
-            backward: 0,
-        })
+        record_at::<Border>(self.borders, border).unwrap_or_default()
     }
 
     // How many bids there are.
     pub fn bids(&self) -> usize
         ensures { result ≡ length (case_read self.now).bids }
     {
-        self.bids.len() / 12
+        self.bids.len() / Bid::SIZE
     }
 
     // A bid; one of zeros past the last.
     pub fn bid(&self, bid: usize) -> Bid
         ensures { result ≡ bid_at (case_read self.now) bid }
     {
-        record_at::<Bid>(self.bids, bid).unwrap_or(Bid {
-            area: 0,
-            direction: Direction::Up,
-            volume: 0,
-            price: 0,
-        })
+        record_at::<Bid>(self.bids, bid).unwrap_or_default()
     }
 
-    // The number that a bid's bytes give as its direction; 0 past the last.
+    // The direction that a bid's bytes give, or the number there that no direction has; up past the last.
     pub(super) fn direction(&self, bid: usize) -> BidDirection
         ensures { result ≡ slice_index_or (directions_read self.now) bid no_direction }
     {
-        record_at::<BidDirection>(self.bids, bid).unwrap_or(BidDirection { number: 0 })
+        record_at::<BidDirection>(self.bids, bid).unwrap_or(Ok(Direction::Up))
     }
 }

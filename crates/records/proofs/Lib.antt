@@ -1,2 +1,3 @@
 mod Numbers
 pub mod Tables
+mod Words

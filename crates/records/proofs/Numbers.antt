@@ -1,11 +1,15 @@
--- Four bytes as a number: what the code computes. Assumes nothing.
-use Rattle.std.proofs.Common.{◌≡◌, ℕ, ◌+◌, ◌*◌, ◌≤◌, List, [], ◌∷◌, length, get_or, take, arith}
-use Rattle.scale.specs.Levels.{little_endian}
+-- The direction that a number stands for in a bid. Assumes nothing.
+use Rattle.std.proofs.Common.{◌≡◌, ℕ, Bool, true, false, cond, eqb, Ok, Err, refl}
+use Rattle.std.specs.Result.{result_unwrap_or}
+use Rattle.market.specs.declared.trade.Direction.TheVariants.{Up, Down}
+use Rattle.market.specs.declared.trade.UnknownDirection.{UnknownDirection}
+use Rattle.market.specs.Directions.{direction_numbered}
+use Rattle.records.specs.Records.{direction_of}
 
--- four bytes, as `from_le_bytes` adds them
-pub four : (bs : List ℕ) → 4 ≤ length bs → get_or bs 0 0 + get_or bs 1 0 * 256 + get_or bs 2 0 * 65536 + get_or bs 3 0 * 16777216 ≡ little_endian (take 4 bs)
-four [] h = absurd (omega arith)
-four (a ∷ []) h = absurd (omega arith)
-four (a ∷ b ∷ []) h = absurd (omega arith)
-four (a ∷ b ∷ c ∷ []) h = absurd (omega arith)
-four (a ∷ b ∷ c ∷ d ∷ bs) h = omega arith
+by_tests : (up down : Bool) (e : UnknownDirection) → result_unwrap_or (cond up (Ok Up) (cond down (Ok Down) (Err e))) Down ≡ cond up Up Down
+by_tests true down e = refl
+by_tests false true e = refl
+by_tests false false e = refl
+
+pub numbered_or_down : (n : ℕ) → result_unwrap_or (direction_numbered n) Down ≡ direction_of n
+numbered_or_down n = by_tests (eqb n 0) (eqb n 1) (record { 0 = n })

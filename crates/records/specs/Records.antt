@@ -1,25 +1,23 @@
 -- The records of a case, as their bytes give them.
 --
---   direction_of, direction_number
---                      a direction as a number, and back
+--   direction_of       the direction that a number stands for in a bid
+--   direction_number   a direction as a number
 --   border_of, bid_of  a border, and a bid
---   raw_direction      the number that a bid's bytes give as its direction
-use Rattle.std.specs.Prelude.{ℕ, cond, List, ◌==◌}
+--   raw_direction      the direction that a bid's bytes give, or the number there that no direction has
+use Rattle.std.specs.Prelude.{ℕ, cond, List, Result, ◌==◌}
 use Rattle.scale.specs.Levels.{little_endian}
 use Rattle.market.specs.declared.trade.Direction.{Direction}
 use Rattle.market.specs.declared.trade.Direction.TheVariants.{Up, Down}
+use Rattle.market.specs.declared.trade.UnknownDirection.{UnknownDirection}
 use Rattle.market.specs.declared.trade.Border.{Border}
 use Rattle.market.specs.declared.trade.Bid.{Bid}
-use Rattle.records.specs.declared.record.BidDirection.{BidDirection}
+use Rattle.market.specs.Directions.{direction_numbered}
+pub use Rattle.market.specs.Directions.{direction_number}
 use Rattle.records.specs.Bytes.{part, signed_word}
 
--- direction 0 is up, 1 is down
+-- 0 is up; 1 is down, and so is read what no direction has
 abbrev pub direction_of : ℕ → Direction
 direction_of n = cond (n == 0) Up Down
-
-abbrev pub direction_number : Direction → ℕ
-direction_number Up = 0
-direction_number Down = 1
 
 -- a border is from and to (2 bytes each), forward and backward limit (4 each)
 abbrev pub border_of : List ℕ → Border
@@ -39,5 +37,5 @@ bid_of bs = record {
   price = signed_word (part 8 4 bs);
 }
 
-abbrev pub raw_direction : List ℕ → BidDirection
-raw_direction bs = record { number = little_endian (part 2 2 bs) }
+abbrev pub raw_direction : List ℕ → Result Direction UnknownDirection
+raw_direction bs = direction_numbered (little_endian (part 2 2 bs))

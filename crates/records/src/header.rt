@@ -1,7 +1,8 @@
 // Header words: four bytes each, the lowest first.
-ghost use Rattle.std.specs.Prelude.{◌≡◌, ◌+◌, ◌*◌, ◌≤◌, length};
-ghost use Rattle.records.specs.Bytes.{word as word_at};
+ghost use Rattle.std.specs.Prelude.{◌≡◌, ◌+◌, ◌*◌};
 ghost use Rattle.records.specs.Headers.{borders_start, bids_start, end_by, case_header_in, proposal_header_in};
+
+use super::record::Record;
 
 // The words of a case's header, in their order.
 #[derive(Clone, Copy)]
@@ -50,32 +51,25 @@ impl CaseHeader {
     }
 }
 
-// The word at a place that lies whole in the bytes.
-fn word(bytes: &[u8], place: usize) -> u32
-    requires { 4 * place + 4 ≤ length bytes.now }
-    ensures { result ≡ word_at place bytes.now }
-{
-    match &bytes[4 * place..] {
-        [a, b, c, d, ..] => u32::from_le_bytes([*a, *b, *c, *d]),
-        _ => 0,
-    }
-}
-
 // The seven words of a case's header, where the bytes hold them all.
 pub fn case_header(bytes: &[u8]) -> Option<CaseHeader>
     ensures { result ≡ case_header_in bytes.now }
 {
-    if bytes.len() < 28 {
-        return None;
-    }
+    let (kind, rest) = u32::first(bytes)?;
+    let (areas, rest) = u32::first(rest)?;
+    let (areas_at, rest) = u32::first(rest)?;
+    let (borders, rest) = u32::first(rest)?;
+    let (borders_at, rest) = u32::first(rest)?;
+    let (bids, rest) = u32::first(rest)?;
+    let (bids_at, _) = u32::first(rest)?;
     Some(CaseHeader {
-        kind: word(bytes, 0),
-        areas: word(bytes, 1),
-        areas_at: word(bytes, 2),
-        borders: word(bytes, 3),
-        borders_at: word(bytes, 4),
-        bids: word(bytes, 5),
-        bids_at: word(bytes, 6),
+        kind,
+        areas,
+        areas_at,
+        borders,
+        borders_at,
+        bids,
+        bids_at,
     })
 }
 
@@ -83,18 +77,24 @@ pub fn case_header(bytes: &[u8]) -> Option<CaseHeader>
 pub fn proposal_header(bytes: &[u8]) -> Option<ProposalHeader>
     ensures { result ≡ proposal_header_in bytes.now }
 {
-    if bytes.len() < 36 {
-        return None;
-    }
+    let (kind, rest) = u32::first(bytes)?;
+    let (areas, rest) = u32::first(rest)?;
+    let (satisfied, rest) = u32::first(rest)?;
+    let (borders, rest) = u32::first(rest)?;
+    let (flows, rest) = u32::first(rest)?;
+    let (bids, rest) = u32::first(rest)?;
+    let (activated, rest) = u32::first(rest)?;
+    let (levels, rest) = u32::first(rest)?;
+    let (prices, _) = u32::first(rest)?;
     Some(ProposalHeader {
-        kind: word(bytes, 0),
-        areas: word(bytes, 1),
-        satisfied: word(bytes, 2),
-        borders: word(bytes, 3),
-        flows: word(bytes, 4),
-        bids: word(bytes, 5),
-        activated: word(bytes, 6),
-        levels: word(bytes, 7),
-        prices: word(bytes, 8),
+        kind,
+        areas,
+        satisfied,
+        borders,
+        flows,
+        bids,
+        activated,
+        levels,
+        prices,
     })
 }

@@ -1,157 +1,151 @@
 // Records of a fixed size, one after the other.
-ghost use Rattle.std.specs.Prelude.{◌≡◌, ℕ, ◌<◌, List, length, take, if◌then◌else◌, Some, None, nat_le};
+ghost use Rattle.std.specs.Prelude.{◌≡◌, ℕ, ◌+◌, ◌<◌, List, length, take, drop, MatchOption};
 ghost use Rattle.scale.specs.Levels.{little_endian};
 ghost use Rattle.records.specs.Records.{border_of, bid_of, raw_direction};
 ghost use Rattle.records.specs.Bytes.{signed_word, record_at};
 ghost use Rattle.std.proofs.Common.{lit<};
 
-use market::{Bid, Border, Direction};
+use market::{Bid, Border, Direction, UnknownDirection};
 
 pub trait Record: Sized {
     // how many bytes write one, and which one they write
-    ghost size: { ℕ };
+    ghost SIZE: { ℕ };
 
     ghost reads: { List ℕ → Self };
 
-    fn size() -> usize
-        ensures { result ≡ size };
+    const SIZE: usize;
 
-    // The record that the bytes begin with.
-    fn first(bytes: &[u8]) -> Option<Self>
-        ensures { result ≡ (if nat_le size (length bytes.now) then Some (reads (take size bytes.now)) else None) };
+    // The record that the bytes begin with, and the bytes behind it.
+    fn first(bytes: &[u8]) -> Option<(Self, &[u8])>
+        ensures { MatchOption result (length bytes.now < SIZE) (λ p. (p.0 ≡ reads (take SIZE bytes.now)) × (p.1.now ≡ drop SIZE bytes.now) × (length p.1.now + SIZE ≡ length bytes.now)) };
 
-    ghost positive: { 0 < size };
+    ghost positive: { 0 < SIZE };
 }
 
 // The record at a place, where the bytes hold it whole.
 pub fn record_at<R: Record>(bytes: &[u8], place: usize) -> Option<R>
-    ensures { result ≡ record_at R.Record.reads R.Record.size bytes.now place }
+    ensures { result ≡ record_at R.Record.reads R.Record.SIZE bytes.now place }
 {
-    let size = R::size();
-    if place < bytes.len() / size {
-        R::first(&bytes[size * place..])
-    } else {
-        None
-    }
+    let start = R::SIZE.checked_mul(place)?;
+    let (record, _) = R::first(bytes.get(start..)?)?;
+    Some(record)
 }
 
-// A signed amount.
-impl Record for i32 {
-    ghost size = { 4 };
-
-    ghost reads = { signed_word };
-
-    ghost positive = { lit< tt };
-
-    fn size() -> usize {
-        4
-    }
-
-    fn first(bytes: &[u8]) -> Option<i32> {
-        let [a, b, c, d, ..] = bytes else {
-            return None;
-        };
-        Some(i32::from_le_bytes([*a, *b, *c, *d]))
-    }
-}
-
-// An unsigned amount.
-impl Record for u32 {
-    ghost size = { 4 };
+// The numbers stay three impls: std has no trait that reads any of them from its bytes.
+impl Record for u16 {
+    ghost SIZE = { 2 };
 
     ghost reads = { little_endian };
 
     ghost positive = { lit< tt };
 
-    fn size() -> usize {
-        4
-    }
+    const SIZE: usize = 2;
 
-    fn first(bytes: &[u8]) -> Option<u32> {
-        let [a, b, c, d, ..] = bytes else {
-            return None;
-        };
-        Some(u32::from_le_bytes([*a, *b, *c, *d]))
+    fn first(bytes: &[u8]) -> Option<(u16, &[u8])> {
+        let (number, rest) = bytes.split_first_chunk()?;
+        Some((u16::from_le_bytes(*number), rest))
+    }
+}
+
+impl Record for u32 {
+    ghost SIZE = { 4 };
+
+    ghost reads = { little_endian };
+
+    ghost positive = { lit< tt };
+
+    const SIZE: usize = 4;
+
+    fn first(bytes: &[u8]) -> Option<(u32, &[u8])> {
+        let (number, rest) = bytes.split_first_chunk()?;
+        Some((u32::from_le_bytes(*number), rest))
+    }
+}
+
+impl Record for i32 {
+    ghost SIZE = { 4 };
+
+    ghost reads = { signed_word };
+
+    ghost positive = { lit< tt };
+
+    const SIZE: usize = 4;
+
+    fn first(bytes: &[u8]) -> Option<(i32, &[u8])> {
+        let (number, rest) = bytes.split_first_chunk()?;
+        Some((i32::from_le_bytes(*number), rest))
     }
 }
 
 // A border: from and to, forward and backward limit.
 impl Record for Border {
-    ghost size = { 12 };
+    ghost SIZE = { 12 };
 
     ghost reads = { border_of };
 
     ghost positive = { lit< tt };
 
-    fn size() -> usize {
-        12
-    }
+    const SIZE: usize = 12;
 
-    fn first(bytes: &[u8]) -> Option<Border> {
-        let [a, b, c, d, e, f, g, h, i, j, k, l, ..] = bytes else {
-            return None;
-        };
-        Some(Border {
-            from: u16::from_le_bytes([*a, *b]),
-            to: u16::from_le_bytes([*c, *d]),
-            forward: u32::from_le_bytes([*e, *f, *g, *h]),
-            backward: u32::from_le_bytes([*i, *j, *k, *l]),
-        })
+    fn first(bytes: &[u8]) -> Option<(Border, &[u8])> {
+        let (from, rest) = u16::first(bytes)?;
+        let (to, rest) = u16::first(rest)?;
+        let (forward, rest) = u32::first(rest)?;
+        let (backward, rest) = u32::first(rest)?;
+        Some((
+            Border {
+                from,
+                to,
+                forward,
+                backward,
+            },
+            rest,
+        ))
     }
 }
 
-// A bid: area and direction, volume, price.
+// A bid: area and direction, volume, price. A number that no direction has is read as down.
 impl Record for Bid {
-    ghost size = { 12 };
+    ghost SIZE = { 12 };
 
     ghost reads = { bid_of };
 
     ghost positive = { lit< tt };
 
-    fn size() -> usize {
-        12
-    }
+    const SIZE: usize = 12;
 
-    fn first(bytes: &[u8]) -> Option<Bid> {
-        let [a, b, c, d, e, f, g, h, i, j, k, l, ..] = bytes else {
-            return None;
-        };
-        Some(Bid {
-            area: u16::from_le_bytes([*a, *b]),
-            direction: if u16::from_le_bytes([*c, *d]) == 0 {
-                Direction::Up
-            } else {
-                Direction::Down
+    fn first(bytes: &[u8]) -> Option<(Bid, &[u8])> {
+        let (area, rest) = u16::first(bytes)?;
+        let (direction, rest) = u16::first(rest)?;
+        let (volume, rest) = u32::first(rest)?;
+        let (price, rest) = i32::first(rest)?;
+        Some((
+            Bid {
+                area,
+                direction: Direction::try_from(direction).unwrap_or(Direction::Down),
+                volume,
+                price,
             },
-            volume: u32::from_le_bytes([*e, *f, *g, *h]),
-            price: i32::from_le_bytes([*i, *j, *k, *l]),
-        })
+            rest,
+        ))
     }
 }
 
-// The number that a bid's bytes give as its direction.
-#[derive(Clone, Copy)]
-pub struct BidDirection {
-    pub number: u16,
-}
+// The direction that a bid's bytes give, or the number there that no direction has.
+pub type BidDirection = Result<Direction, UnknownDirection>;
 
 impl Record for BidDirection {
-    ghost size = { 12 };
+    ghost SIZE = { 12 };
 
     ghost reads = { raw_direction };
 
     ghost positive = { lit< tt };
 
-    fn size() -> usize {
-        12
-    }
+    const SIZE: usize = 12;
 
-    fn first(bytes: &[u8]) -> Option<BidDirection> {
-        let [_, _, c, d, _, _, _, _, _, _, _, _, ..] = bytes else {
-            return None;
-        };
-        Some(BidDirection {
-            number: u16::from_le_bytes([*c, *d]),
-        })
+    fn first(bytes: &[u8]) -> Option<(BidDirection, &[u8])> {
+        let (_, rest) = u16::first(bytes)?;
+        let (number, _) = u16::first(rest)?;
+        Some((Direction::try_from(number), bytes.get(Self::SIZE..)?))
     }
 }

@@ -1,9 +1,10 @@
-use Rattle.std.proofs.Common.{pos, refl, w32, SFits, rules}
+use Rattle.std.proofs.Common.{◌≡◌, pos, refl, unwrap_or, w32, SFits, rules}
 use Rattle.records.specs.Bytes.{signed_word}
 use Rattle.records.proofs.Tables.{signed_read}
 use Rattle.layout.proofs.reader.CaseReader.demand.Goals as goal
 
 pub returns : goal.returns
 returns c =
-    let fits : SFits w32 c.unwrap_or.result = search rules in
-    signed_read signed_word 4 c.args.self.now.demands.now _ c.args.area _ (pos 0) _ fits refl c.record_at.ensures c.unwrap_or.ensures
+    let fits : SFits w32 c.unwrap_or_default.result = search rules in
+    let is : c.unwrap_or_default.result ≡ unwrap_or c.record_at.result (pos 0) = search rules in
+    signed_read signed_word 4 c.args.self.now.demands.now _ c.args.area _ (pos 0) _ fits refl c.record_at.ensures is
