@@ -20,7 +20,7 @@ use Rattle.records.specs.Records.{border_of, bid_of}
 use Rattle.layout.specs.CaseBytes.{bids_offset, count_allowed, offset_right, direction_known, bytes_answer, records_answer, case_answer, case_in}
 use Rattle.layout.specs.CaseReaders.{case_read, directions_read, no_direction, direction_fine, Parts}
 use Rattle.records.specs.Records.{raw_direction}
-use Rattle.layout.proofs.Asks.{and_then_first, and_then_second, ask_one_yes, ask_yes, ask_same, passed}
+use Rattle.market.proofs.Firsts.{and_then_first, and_then_second, ask_one_yes, all_from_ask, ask_same, passed}
 use Rattle.records.proofs.Tables.{records_part, length_table, getD_table}
 
 case_header_there : (bs : List ℕ) (h : CaseHeader) → Some h ≡ case_header_in bs → (leb 28 (length bs) ≡ true) × (h ≡ case_header_of bs)
@@ -72,10 +72,10 @@ module _ (bids : Bool) (bs : List ℕ) where
         whole = leb-true 28 (length bs) (ask_one_yes (leb 28 (length bs)) (Header (length bs)) (and_then_first (ask_one (leb 28 (length bs)) (Header (length bs))) kind_first h));
         kind = eqb-true (word 0 bs) 1 (ask_one_yes (eqb (word 0 bs) 1) Kind (and_then_first (ask_one (eqb (word 0 bs) 1) Kind) (header_questions (case_header_of bs)) kind_on));
         counts =
-            ask_yes (count_allowed bids (case_header_of bs)) 7 Count
+            all_from_ask (count_allowed bids (case_header_of bs)) 7 Count
             (and_then_first (ask (count_allowed bids (case_header_of bs)) 7 Count) (ask (offset_right (case_header_of bs) (length bs)) 8 Offset) questions_on);
         offsets =
-            ask_yes (offset_right (case_header_of bs) (length bs)) 8 Offset
+            all_from_ask (offset_right (case_header_of bs) (length bs)) 8 Offset
             (and_then_second (ask (count_allowed bids (case_header_of bs)) 7 Count) (ask (offset_right (case_header_of bs) (length bs)) 8 Offset) questions_on);
       }
 
@@ -176,11 +176,11 @@ module _ (c : Case) (direction_ok : ℕ → Bool) where
       let after3 = and_then_second limits_asked rest4 after2 in
       let after4 = and_then_second origins_asked offers_asked after3 in
       record {
-        demands = ask_yes _ (areas c) Demand (and_then_first demands_asked rest2 h);
-        ends = ask_yes _ (length c.borders) Ends (and_then_first ends_asked rest3 after1);
-        limits = ask_yes _ (length c.borders) Limits (and_then_first limits_asked rest4 after2);
-        origins = ask_yes _ (length c.bids) Origin (and_then_first origins_asked offers_asked after3);
-        offers = ask_yes _ (length c.bids) Offer after4;
+        demands = all_from_ask _ (areas c) Demand (and_then_first demands_asked rest2 h);
+        ends = all_from_ask _ (length c.borders) Ends (and_then_first ends_asked rest3 after1);
+        limits = all_from_ask _ (length c.borders) Limits (and_then_first limits_asked rest4 after2);
+        origins = all_from_ask _ (length c.bids) Origin (and_then_first origins_asked offers_asked after3);
+        offers = all_from_ask _ (length c.bids) Offer after4;
       }
 
 -- a test that is true at every place holds of every record

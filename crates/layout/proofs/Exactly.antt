@@ -18,7 +18,7 @@ use Rattle.records.specs.Headers.{borders_start, bids_start, end_by}
 use Rattle.records.specs.Records.{border_of, bid_of}
 use Rattle.layout.specs.CaseBytes.{demand_bytes, border_bytes, bid_bytes, each, case_header, written, case_size, count_allowed, offset_right, direction_known, bytes_answer, records_answer, case_answer, case_in}
 use Rattle.layout.specs.Exact.{Bytewise, BidsAllowed, CaseLayout}
-use Rattle.layout.proofs.Asks.{and_then_first, and_then_second, yes_one, yes_all, yes_both}
+use Rattle.market.proofs.Firsts.{and_then_first, and_then_second, yes_one, ask_all, and_then_both}
 use Rattle.layout.proofs.Cases.{header_taken, records_taken, direction_part, both_first, both_second, taken_end, taken_valid}
 use Rattle.layout.proofs.RoundTrips.{number_back, demand_back, demand_again, border_back, border_again, bid_back, bid_again, direction_low, bytes_again, all_part, length_part, part_join, table_each, part_each, each_table, length_each}
 use Rattle.records.proofs.Tables.{length_table}
@@ -157,11 +157,11 @@ module _ (c : Case) (valid : Valid c) where
 
   bytes_yes : (bids : Bool) → BidsAllowed bids c → bytes_answer bids (written c) ≡ Ok tt
   bytes_yes bids allowed =
-      yes_both (ask_one (leb 28 (length (written c))) (Header (length (written c)))) _
+      and_then_both (ask_one (leb 28 (length (written c))) (Header (length (written c)))) _
       (yes_one (leb 28 (length (written c))) (Header (length (written c))) (le-leb 28 (length (written c)) (omega (arith, written_size c))))
-      (yes_both (ask (count_allowed bids (case_header_of (written c))) 7 Count) (ask (offset_right (case_header_of (written c)) (length (written c))) 8 Offset)
-      (yes_all (count_allowed bids (case_header_of (written c))) 7 Count (λ k below. ap (λ h. count_allowed bids h k) header_written ∙ counts_fine bids allowed k))
-      (yes_all (offset_right (case_header_of (written c)) (length (written c))) 8 Offset (λ k below. ap (λ h. offset_right h (length (written c)) k) header_written ∙ offsets_fine k)))
+      (and_then_both (ask (count_allowed bids (case_header_of (written c))) 7 Count) (ask (offset_right (case_header_of (written c)) (length (written c))) 8 Offset)
+      (ask_all (count_allowed bids (case_header_of (written c))) 7 Count (λ k below. ap (λ h. count_allowed bids h k) header_written ∙ counts_fine bids allowed k))
+      (ask_all (offset_right (case_header_of (written c)) (length (written c))) 8 Offset (λ k below. ap (λ h. offset_right h (length (written c)) k) header_written ∙ offsets_fine k)))
 
   direction_written : (k : ℕ) → k < o → direction_known (written c) k ≡ true
   direction_written k below =
@@ -180,20 +180,20 @@ module _ (c : Case) (valid : Valid c) where
 
   records_yes : records_answer c (direction_known (written c)) ≡ Ok tt
   records_yes =
-      yes_both (ask (λ k. demand_in_range (demand_at c k)) (areas c) Demand) _
-      (yes_all (λ k. demand_in_range (demand_at c k)) (areas c) Demand (at demand_in_range c.demands (pos 0) valid.demands_in_range))
-      (yes_both (ask (λ k. ends_known (areas c) (border_at c k)) m Ends) _
-      (yes_all (λ k. ends_known (areas c) (border_at c k)) m Ends (at (ends_known (areas c)) c.borders no_border valid.borders_known))
-      (yes_both (ask (λ k. limits_in_range (border_at c k)) m Limits) _
-      (yes_all (λ k. limits_in_range (border_at c k)) m Limits (at limits_in_range c.borders no_border valid.borders_in_range))
-      (yes_both (ask (λ k. bid_known (areas c) (bid_at c k) && direction_known (written c) k) o Origin) (ask (λ k. bid_in_range (bid_at c k)) o Offer)
-      (yes_all (λ k. bid_known (areas c) (bid_at c k) && direction_known (written c) k) o Origin
+      and_then_both (ask (λ k. demand_in_range (demand_at c k)) (areas c) Demand) _
+      (ask_all (λ k. demand_in_range (demand_at c k)) (areas c) Demand (at demand_in_range c.demands (pos 0) valid.demands_in_range))
+      (and_then_both (ask (λ k. ends_known (areas c) (border_at c k)) m Ends) _
+      (ask_all (λ k. ends_known (areas c) (border_at c k)) m Ends (at (ends_known (areas c)) c.borders no_border valid.borders_known))
+      (and_then_both (ask (λ k. limits_in_range (border_at c k)) m Limits) _
+      (ask_all (λ k. limits_in_range (border_at c k)) m Limits (at limits_in_range c.borders no_border valid.borders_in_range))
+      (and_then_both (ask (λ k. bid_known (areas c) (bid_at c k) && direction_known (written c) k) o Origin) (ask (λ k. bid_in_range (bid_at c k)) o Offer)
+      (ask_all (λ k. bid_known (areas c) (bid_at c k) && direction_known (written c) k) o Origin
       (λ k below. both (bid_known (areas c) (bid_at c k)) (direction_known (written c) k) (at (bid_known (areas c)) c.bids no_bid valid.bids_known k below) (direction_written k below)))
-      (yes_all (λ k. bid_in_range (bid_at c k)) o Offer (at bid_in_range c.bids no_bid valid.bids_in_range)))))
+      (ask_all (λ k. bid_in_range (bid_at c k)) o Offer (at bid_in_range c.bids no_bid valid.bids_in_range)))))
 
   pub written_taken : (bids : Bool) → BidsAllowed bids c → case_answer bids (written c) ≡ Ok tt
   written_taken bids allowed =
-      yes_both (bytes_answer bids (written c)) (records_answer (case_in (written c)) (direction_known (written c))) (bytes_yes bids allowed)
+      and_then_both (bytes_answer bids (written c)) (records_answer (case_in (written c)) (direction_known (written c))) (bytes_yes bids allowed)
       (ap (λ x. records_answer x (direction_known (written c))) case_back ∙ records_yes)
 
 -- and taken bytes are those that their case writes

@@ -16,7 +16,7 @@ use Rattle.layout.specs.CaseBytes.{each}
 use Rattle.layout.specs.ProposalBytes.{flows_offset, activated_offset, prices_offset, proposal_end, starts, satisfied_part, flows_part, activated_part, prices_part, signed_amounts, unsigned_amounts, selection_in, price_part, count_right, section_right, proposal_answer, amount_bytes, level_bytes, proposal_header, proposal_bytes}
 use Rattle.layout.specs.Writing.{counts_in, proposal_written}
 use Rattle.layout.specs.Exact.{Bytewise, Writable, prices_in, all_levels, ProposalLayout}
-use Rattle.layout.proofs.Asks.{and_then_first, and_then_second, ask_one_yes, ask_yes, yes_one, yes_all, yes_both}
+use Rattle.market.proofs.Firsts.{and_then_first, and_then_second, ask_one_yes, all_from_ask, yes_one, ask_all, and_then_both}
 use Rattle.layout.proofs.Cases.{both_second}
 use Rattle.layout.proofs.Exactly.{pick, both}
 use Rattle.layout.proofs.Proposals.{taken_length, selection_same}
@@ -176,11 +176,11 @@ module _ (n : Counts) (levels : ℕ) (s : Selection) (prices : List (List ℤ)) 
 
   pub taken : proposal_answer n levels bytes ≡ Ok tt
   taken =
-      yes_both (ask_one (leb 36 (length bytes)) (Header (length bytes))) _
+      and_then_both (ask_one (leb 36 (length bytes)) (Header (length bytes))) _
       (yes_one (leb 36 (length bytes)) (Header (length bytes)) (le-leb 36 (length bytes) (omega (arith, bytes_long))))
-      (yes_both (ask (count_right n levels (proposal_header_of bytes)) 9 Count) (ask (section_right (starts n levels) (proposal_header_of bytes) (length bytes)) 10 Offset)
-      (yes_all (count_right n levels (proposal_header_of bytes)) 9 Count (λ k below. ap (λ h. count_right n levels h k) header_written ∙ counts_fine k))
-      (yes_all (section_right (starts n levels) (proposal_header_of bytes) (length bytes)) 10 Offset
+      (and_then_both (ask (count_right n levels (proposal_header_of bytes)) 9 Count) (ask (section_right (starts n levels) (proposal_header_of bytes) (length bytes)) 10 Offset)
+      (ask_all (count_right n levels (proposal_header_of bytes)) 9 Count (λ k below. ap (λ h. count_right n levels h k) header_written ∙ counts_fine k))
+      (ask_all (section_right (starts n levels) (proposal_header_of bytes) (length bytes)) 10 Offset
       (λ k below. ap (λ h. section_right (starts n levels) h (length bytes) k) header_written ∙ sections_fine k)))
 
   pub as_written : bytes ≡ proposal_written levels s (all_levels prices)
@@ -261,10 +261,10 @@ module _ (n : Counts) (levels : ℕ) (bs : List ℕ) (bytewise : Bytewise bs) (y
   kind_is = eqb-true (word 0 bs) 2 (ask_one_yes (eqb (word 0 bs) 2) Kind (and_then_first (ask_one (eqb (word 0 bs) 2) Kind) (and_then counts_asked sections_asked) kind_on))
 
   count_is : (k : ℕ) → k < 9 → count_right n levels words k ≡ true
-  count_is = ask_yes (count_right n levels words) 9 Count (and_then_first counts_asked sections_asked questions_on)
+  count_is = all_from_ask (count_right n levels words) 9 Count (and_then_first counts_asked sections_asked questions_on)
 
   section_is : (k : ℕ) → k < 10 → section_right (starts n levels) words (length bs) k ≡ true
-  section_is = ask_yes (section_right (starts n levels) words (length bs)) 10 Offset (and_then_second counts_asked sections_asked questions_on)
+  section_is = all_from_ask (section_right (starts n levels) words (length bs)) 10 Offset (and_then_second counts_asked sections_asked questions_on)
 
   end : length bs ≡ proposal_end n levels
   end = taken_length n levels bs yes_here

@@ -4,14 +4,13 @@ use Rattle.market.specs.declared.refusal.Refusal.{Refusal}
 use Rattle.market.specs.declared.refusal.Refusal.TheVariants.{Header, Kind, Count, Offset, Demand, Ends, Limits, Origin, Offer}
 use Rattle.market.specs.Cases.{areas, demand_at, border_at, bid_at, demand_in_range, ends_known, limits_in_range, bid_known, bid_in_range}
 use Rattle.market.specs.First.{first_no, FirstNo, and_then, ask, ask_one, refused_at}
-use Rattle.market.proofs.Firsts.{first_no_is}
 use Rattle.layout.specs.declared.proposal.Counts.{Counts}
 use Rattle.records.specs.Bytes.{word}
 use Rattle.records.specs.Headers.{case_header_of, proposal_header_of}
 use Rattle.layout.specs.CaseBytes.{case_in, count_allowed, offset_right, direction_known, case_answer}
 use Rattle.layout.specs.ProposalBytes.{count_right, section_right, starts, proposal_answer}
 use Rattle.layout.specs.InOrder.{Asked, asked, Passes, Refuses, case_questions, proposal_questions, QuestionsInOrder}
-use Rattle.layout.proofs.Asks.{and_then_first, and_then_second, ask_yes, first_no_found}
+use Rattle.market.proofs.Firsts.{and_then_first, and_then_second, all_from_ask, first_no_found, first_no_is}
 
 abbrev Answer : Type 0
 Answer = Result (Unit {0}) Refusal
@@ -67,7 +66,7 @@ ask_first q i first = ap (refused_at q.refusal) (sym (first_no_is q.passes q.pla
 taken : (qs : List Asked) → asked qs ≡ Ok tt → Passes qs
 taken [] h = tt
 taken (q ∷ qs) h =
-    (ask_yes q.passes q.places q.refusal (and_then_first (ask q.passes q.places q.refusal) (asked qs) h), taken qs (and_then_second (ask q.passes q.places q.refusal) (asked qs) h))
+    (all_from_ask q.passes q.places q.refusal (and_then_first (ask q.passes q.places q.refusal) (asked qs) h), taken qs (and_then_second (ask q.passes q.places q.refusal) (asked qs) h))
 
 taken_back : (qs : List Asked) → Passes qs → asked qs ≡ Ok tt
 taken_back [] h = refl

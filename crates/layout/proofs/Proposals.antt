@@ -9,7 +9,7 @@ use Rattle.records.specs.declared.header.ProposalHeader.{ProposalHeader}
 use Rattle.layout.specs.declared.proposal.Counts.{Counts}
 use Rattle.records.specs.Headers.{proposal_header_of, proposal_header_in}
 use Rattle.layout.specs.ProposalBytes.{proposal_answer, proposal_end, prices_offset, activated_offset, flows_offset, count_right, section_right, starts, flows_part, activated_part, prices_part}
-use Rattle.layout.proofs.Asks.{and_then_second, ask_yes, passed, stopped}
+use Rattle.market.proofs.Firsts.{and_then_second, all_from_ask, passed, stopped}
 
 -- what the header's words say once they are all there
 pub header_there : (bs : List ℕ) (h : ProposalHeader) → Some h ≡ proposal_header_in bs → (leb 36 (length bs) ≡ true) × (h ≡ proposal_header_of bs)
@@ -58,7 +58,7 @@ module _ (n : Counts) (levels : ℕ) (bs : List ℕ) where
       let questions_on = and_then_second (ask_one (eqb (proposal_header_of bs).kind 2) Kind) (questions (proposal_header_of bs)) counts_on in
       let sections_on =
       and_then_second (ask (count_right n levels (proposal_header_of bs)) 9 Count) (ask (section_right (starts n levels) (proposal_header_of bs) (length bs)) 10 Offset) questions_on in
-      eqb-true (length bs) (proposal_end n levels) (ask_yes (section_right (starts n levels) (proposal_header_of bs) (length bs)) 10 Offset sections_on 9 (omega arith))
+      eqb-true (length bs) (proposal_end n levels) (all_from_ask (section_right (starts n levels) (proposal_header_of bs) (length bs)) 10 Offset sections_on 9 (omega arith))
 
   -- the sections as the bytes are split
   pub flows_split : take (4 * n.borders) (drop (4 * n.areas) (drop 36 bs)) ≡ flows_part n bs

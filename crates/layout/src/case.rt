@@ -12,7 +12,7 @@ use super::questions::{
 use super::reader::CaseReader;
 use super::table::fill;
 use market::{Book, Refusal};
-use records::{CaseHeader, case_header};
+use records::{CaseHeader, Kind, case_header};
 
 // The header of a case, or the first question on it that gets a no.
 fn check_header(bytes: &[u8], bids: bool) -> Result<CaseHeader, Refusal>
@@ -22,7 +22,7 @@ fn check_header(bytes: &[u8], bids: bool) -> Result<CaseHeader, Refusal>
     let Some(header) = case_header(bytes) else {
         return Err(Refusal::Header(bytes.len()));
     };
-    if header.kind != 1 {
+    if header.kind != u32::from(Kind::Case) {
         return Err(Refusal::Kind);
     }
     ask_counts(header, bids)?;

@@ -7,7 +7,7 @@ ghost use Rattle.layout.specs.Sections.{section_bytes, satisfied_bytes, flows_by
 
 use super::table::fill;
 use market::{Amounts, Refusal, ask};
-use records::{ProposalHeader, Record, proposal_header, record_at};
+use records::{Kind, ProposalHeader, Record, proposal_header, record_at};
 
 // How many areas, borders and bids a case has.
 #[derive(Clone, Copy, PartialEq, Eq, Debug)]
@@ -103,7 +103,7 @@ fn check_proposal(bytes: &[u8], counts: Counts, levels: usize) -> Result<(), Ref
     let Some(header) = proposal_header(bytes) else {
         return Err(Refusal::Header(bytes.len()));
     };
-    if header.kind != 2 {
+    if header.kind != u32::from(Kind::Proposal) {
         return Err(Refusal::Kind);
     }
     ask_counts(counts, levels, header)?;

@@ -1,7 +1,7 @@
 -- The first place that fails is the one that `first_no` finds, and no other. Assumes nothing.
-use Rattle.std.proofs.Common.{◌≡◌, ℕ, zero, suc, ◌+◌, ◌<◌, ◌≤◌, Bool, true, false, cond, Some, None, Ok, Err, Option, Result, sym, refl, ap, ◌∙◌, arith}
+use Rattle.std.proofs.Common.{◌≡◌, ℕ, zero, suc, ◌+◌, ◌<◌, ◌≤◌, Bool, true, false, cond, Some, None, Ok, Err, Option, Result, sym, refl, ap, ◌∙◌, subst, arith}
 use native.Mathlib.Decide.{ℕ_discrete}
-use Rattle.market.specs.First.{first_no, FirstNo, ask, refused_at, and_then}
+use Rattle.market.specs.First.{first_no, FirstNo, ask, refused_at, and_then, ask_one}
 
 pub first_no_none : (ok : ℕ → Bool) (i n : ℕ) → ((k : ℕ) → i ≤ k → k < i + n → ok k ≡ true) → first_no ok i n ≡ None
 first_no_none ok i zero all = refl
@@ -53,12 +53,48 @@ pub ask_all : {E : Type 0} (ok : ℕ → Bool) (n : ℕ) (refusal : ℕ → E) �
 ask_all ok n refusal all = ap (refused_at refusal) (first_no_none ok 0 n (λ k low high. all k (omega arith)))
 
 -- two questions in a row get a yes where both do
+module _ {E : Type 0} where
+  pub and_then_first : (a b : Result (Unit {0}) E) → and_then a b ≡ Ok tt → a ≡ Ok tt
+  and_then_first (Ok u) b h = refl
+  and_then_first (Err e) b h = h
+
+  pub and_then_second : (a b : Result (Unit {0}) E) → and_then a b ≡ Ok tt → b ≡ Ok tt
+  and_then_second (Ok u) b h = h
+  and_then_second (Err e) b h = let z : ◌≡◌ {A = ℕ} 0 1 = cc in absurd (omega arith)
+
+  -- one test in front of the rest
+  pub passed : (t : Bool) (e : E) (rest : Result (Unit {0}) E) → t ≡ true → and_then (ask_one t e) rest ≡ rest
+  passed true e rest h = refl
+  passed false e rest h = cc
+
+  pub stopped : (t : Bool) (e : E) (rest : Result (Unit {0}) E) → t ≡ false → and_then (ask_one t e) rest ≡ Err e
+  stopped true e rest h = cc
+  stopped false e rest h = refl
+
+  pub ask_one_yes : (t : Bool) (refusal : E) → ask_one t refusal ≡ Ok tt → t ≡ true
+  ask_one_yes true refusal h = refl
+  ask_one_yes false refusal h = cc
+
+  pub yes_one : (t : Bool) (e : E) → t ≡ true → ask_one t e ≡ Ok tt
+  yes_one t e h = ap (λ x. ask_one x e) h
+
 pub both_from_and_then : {E : Type 0} (a b : Result (Unit {0}) E) → and_then a b ≡ Ok tt → (a ≡ Ok tt) × (b ≡ Ok tt)
-both_from_and_then (Ok tt) b e = (refl, e)
-both_from_and_then (Err x) b e = absurd (let z : ◌≡◌ {A = ℕ} 0 1 = cc in omega arith)
+both_from_and_then a b e = (and_then_first a b e, and_then_second a b e)
 
 pub and_then_both : {E : Type 0} (a b : Result (Unit {0}) E) → a ≡ Ok tt → b ≡ Ok tt → and_then a b ≡ Ok tt
 and_then_both a b p q = ap (λ x. and_then x b) p ∙ q
+
+-- the place that `first_no` finds is the first that fails
+found_from : (ok : ℕ → Bool) (i n : ℕ) → ((k : ℕ) → k < i → ok k ≡ true) → FirstNo ok (i + n) (first_no ok i n)
+found_from ok i zero before = λ k below. before k (omega arith)
+found_from ok i (suc n) before = at (ok i) refl (λ more. subst (λ (m : ℕ). FirstNo ok m (first_no ok (suc i) n)) (omega arith) (found_from ok (suc i) n more))
+  where
+    at : (t : Bool) → ok i ≡ t → (((k : ℕ) → k < suc i → ok k ≡ true) → FirstNo ok (i + suc n) (first_no ok (suc i) n)) → FirstNo ok (i + suc n) (cond t (first_no ok (suc i) n) (Some i))
+    at true e later = later (λ k below. elim (ℕ_discrete k i) [ yes same ↦ ap ok same ∙ e | no other ↦ before k (omega arith) ])
+    at false e later = (omega arith, e, before)
+
+pub first_no_found : (ok : ℕ → Bool) (n : ℕ) → FirstNo ok n (first_no ok 0 n)
+first_no_found ok n = subst (λ (m : ℕ). FirstNo ok m (first_no ok 0 n)) (omega arith) (found_from ok 0 n (λ k below. absurd (omega arith)))
 
 -- tests that agree at the places asked get the same answer
 first_no_same : (ok other : ℕ → Bool) (i n : ℕ) → ((k : ℕ) → i ≤ k → k < i + n → ok k ≡ other k) → first_no ok i n ≡ first_no other i n

@@ -2,7 +2,9 @@
 #![tactic(auto)]
 
 mod header;
+mod kind;
 mod record;
 
 pub use header::{CaseHeader, ProposalHeader, case_header, proposal_header};
+pub use kind::Kind;
 pub use record::{BidDirection, Record, record_at};

@@ -57,8 +57,11 @@ impl Record for u32 {
     const SIZE: usize = 4;
 
     fn first(bytes: &[u8]) -> Option<(u32, &[u8])> {
-        let (number, rest) = bytes.split_first_chunk()?;
-        Some((u32::from_le_bytes(*number), rest))
+        // A header word is read by this: four named bytes and the rest.
+        let [a, b, c, d, rest @ ..] = bytes else {
+            return None;
+        };
+        Some((u32::from_le_bytes([*a, *b, *c, *d]), rest))
     }
 }
 
