@@ -4,28 +4,26 @@ use market::{Bid, Border, Direction};
 use scale::{Activation, Scale};
 use std::test::Fail;
 
+// The levels of a price, and the price that they write.
+type Levels = (i64, i64, i64);
+
+type Price = (i64, (i64, i64));
+
 // The price with the given levels, each moved by so much.
-fn price(levels: (i64, i64, i64), by: (i64, i64, i64)) -> Result<(i64, (i64, i64)), Fail> {
-    let mut bytes = [0; 24];
-    bytes[0..8].copy_from_slice(&levels.0.wrapping_add(by.0).to_le_bytes());
-    bytes[8..16].copy_from_slice(&levels.1.wrapping_add(by.1).to_le_bytes());
-    bytes[16..24].copy_from_slice(&levels.2.wrapping_add(by.2).to_le_bytes());
-    match Activation::read_price(&bytes) {
+fn price((a, b, c): Levels, (x, y, z): Levels) -> Result<Price, Fail> {
+    let levels = [a.wrapping_add(x), b.wrapping_add(y), c.wrapping_add(z)];
+    match Activation::read_price(levels.map(i64::to_le_bytes).as_flattened()) {
         Some(price) => Ok(price),
         None => Err(Fail::new("the price is out of range")),
     }
 }
 
-fn opposite(by: (i64, i64, i64)) -> (i64, i64, i64) {
-    (
-        by.0.wrapping_neg(),
-        by.1.wrapping_neg(),
-        by.2.wrapping_neg(),
-    )
+fn opposite((x, y, z): Levels) -> Levels {
+    (x.wrapping_neg(), y.wrapping_neg(), z.wrapping_neg())
 }
 
 // Whether a demand fits at nothing, at half and at all of it.
-fn demand_fits(demand: i32, price: (i64, (i64, i64))) -> (bool, bool, bool) {
+fn demand_fits(demand: i32, price: Price) -> (bool, bool, bool) {
     (
         is_demand_fitting::<Activation>(demand, 0, price),
         is_demand_fitting::<Activation>(demand, demand / 2, price),
@@ -34,7 +32,7 @@ fn demand_fits(demand: i32, price: (i64, (i64, i64))) -> (bool, bool, bool) {
 }
 
 // The same of a bid of 10 kW at 5 cents.
-fn bid_fits(direction: Direction, price: (i64, (i64, i64))) -> (bool, bool, bool) {
+fn bid_fits(direction: Direction, price: Price) -> (bool, bool, bool) {
     let bid = Bid {
         area: 0,
         direction,
@@ -49,7 +47,7 @@ fn bid_fits(direction: Direction, price: (i64, (i64, i64))) -> (bool, bool, bool
 }
 
 // The same of a border with limits -20 and 10.
-fn border_fits(from: (i64, (i64, i64)), to: (i64, (i64, i64))) -> (bool, bool, bool) {
+fn border_fits(from: Price, to: Price) -> (bool, bool, bool) {
     let border = Border {
         from: 0,
         to: 1,
@@ -65,7 +63,7 @@ fn border_fits(from: (i64, (i64, i64)), to: (i64, (i64, i64))) -> (bool, bool, b
 
 // How far the left side of a rule lies from its right side, and whether the amount then fits at its lower limit, between
 // its limits and at its upper limit. The first level that is not 0 decides.
-const SIDES: [((i64, i64, i64), (bool, bool, bool)); 7] = [
+const SIDES: [(Levels, (bool, bool, bool)); 7] = [
     ((-1, 1, 1), (false, false, true)),
     ((0, -1, 1), (false, false, true)),
     ((0, 0, -1), (false, false, true)),
