@@ -239,9 +239,9 @@ fn refused(rt: &HostRuntime, what: &str, refusal: Refusal) -> io::Result<()> {
 
 fn answered(rt: &HostRuntime, what: &str, answer: Answer) -> io::Result<()> {
     match answer {
-        Answer::Taken => println!(rt; "{what}: taken"),
-        Answer::Amount(amount) => println!(rt; "{what}: {amount}"),
-        Answer::Refused(refusal) => refused(rt, what, refusal),
+        Ok(None) => println!(rt; "{what}: taken"),
+        Ok(Some(amount)) => println!(rt; "{what}: {amount}"),
+        Err(refusal) => refused(rt, what, refusal),
     }
 }
 

@@ -77,18 +77,15 @@ valid_in_force m (step ∷ earlier) (rule, lawful) =
     (λ t. made_valid m (record { case = in_force earlier; standing = standing earlier }) step.call before (ap taken (sym rule) ∙ t)) before
 
 -- what stands is unbeaten
-none_some : {X : Type 0} {Y : Type 0} (s : X) → ◌≡◌ {A = Option X} None (Some s) → Y
-none_some s e = cc
-
 abbrev Best : Meaning → Case → Option Selection → Type 0
 Best m c o = (s : Selection) → o ≡ Some s → Unbeaten m c s
 
 module _ (m : Meaning) (laws : Laws m) where
   left_best : (c : Case) → Valid c → (last : Option Sent) → Best m c (standing_by c last) → (call : Sent) → taken (answer_to m (record { case = c; standing = standing_by c last }) call) ≡ true → Best m (made_of call c) (standing_by (made_of call c) (unless_read call last))
-  left_best c v last best (load bs) t s e = none_some s e
-  left_best c v last best (revise area demand) t s e = none_some s e
-  left_best c v last best (limit border forward backward) t s e = none_some s e
-  left_best c v last best (withdraw bid) t s e = none_some s e
+  left_best c v last best (load bs) t s e = cc
+  left_best c v last best (revise area demand) t s e = cc
+  left_best c v last best (limit border forward backward) t s e = cc
+  left_best c v last best (withdraw bid) t s e = cc
   left_best c v last best (submit bs) t s e =
       let same : proposed c bs ≡ s = cc in
       subst (λ (x : Selection). Unbeaten m c x) same (submit_unbeaten m c bs laws v (yes_taken (submit_answer m c bs) t))
@@ -99,7 +96,7 @@ module _ (m : Meaning) (laws : Laws m) where
   best_if false c d p q x y = y
 
   pub standing_best : (h : History) → Lawful m h → Best m (in_force h) (standing h)
-  standing_best [] lawful = λ s e. none_some s e
+  standing_best [] lawful = λ s e. cc
   standing_best (step ∷ earlier) (rule, lawful) =
       best_if (taken step.answer) (made_of step.call (in_force earlier)) (in_force earlier) (unless_read step.call (last_taken earlier)) (last_taken earlier)
       (λ t. left_best (in_force earlier) (valid_in_force m earlier lawful) (last_taken earlier) (standing_best earlier lawful) step.call (ap taken (sym rule) ∙ t))

@@ -10,6 +10,7 @@ pub fn one_proposal<S: Scale>()
 {}
 
 // A submit is taken exactly if all its questions pass, and a refusal names the first that fails, at its first place.
+#[tactic(auto, using(crate::proofs::Questions::submit_in_order))]
 pub fn submit_asks_in_order<S: Scale>()
     ensures { SubmitInOrder S.Scale.meaning }
 {}

@@ -340,9 +340,9 @@ fn text_of(heap: Global, answers: &[Answer]) -> Result<String, AllocError> {
 // Adds the line of one answer.
 fn add(heap: Global, text: &mut String, answer: Answer) -> Result<(), AllocError> {
     let line = match answer {
-        Answer::Taken => String::from_str(heap, "taken\n")?,
-        Answer::Amount(amount) => format!(in heap; "amount {amount}\n")?,
-        Answer::Refused(refusal) => {
+        Ok(None) => String::from_str(heap, "taken\n")?,
+        Ok(Some(amount)) => format!(in heap; "amount {amount}\n")?,
+        Err(refusal) => {
             let number = refusal.number();
             let layer = refusal.layer();
             let place = refusal.place();
