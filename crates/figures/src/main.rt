@@ -2,10 +2,11 @@
 // The file `stdout` has what the rules say of each: taken, with the totals where a proposal stands, or number, layer and place.
 #![tactic(auto)]
 
-use cycle::{Answer, Call, Closed, Cycle, Item};
+use cycle::{Answer, Call, Cycle, Item};
 use listing::Totals;
 use market::Refusal;
 use scale::{Activation, Netting, Pair, Scale};
+use std::alloc::{AllocError, Global};
 use std::io;
 
 // A row on the two areas: amounts, and the money in the price of area 1.
@@ -205,50 +206,23 @@ static WITHDRAWING: [Step; 4] = [
     },
 ];
 
-fn change(bytes: &mut [u8], at: usize, value: i32) {
-    if at < bytes.len() && bytes.len() - at >= 4 {
-        let [a, b, c, d] = value.to_le_bytes();
-        bytes[at] = a;
-        bytes[at + 1] = b;
-        bytes[at + 2] = c;
-        bytes[at + 3] = d;
-    }
-}
-
-// At most 26 words, as bytes.
-fn bytes_of(words: &[i32]) -> [u8; 104] {
-    let mut bytes = [0; 104];
-    put_words(&mut bytes, words);
-    bytes
-}
-
-fn put_words(bytes: &mut [u8], words: &[i32]) {
-    for k in 0..26 {
-        if k < words.len() {
-            change(bytes, 4 * k, words[k]);
-        }
-    }
-}
-
-fn refused(rt: &HostRuntime, what: &str, refusal: Refusal) -> io::Result<()> {
-    let number = refusal.number();
-    let layer = refusal.layer();
-    let place = refusal.place();
-    println!(rt; "{what}: refused {number} {layer} {place}")
+// Words as the bytes of a file.
+fn bytes_of(heap: Global, words: &[i32]) -> Result<Vec<u8>, AllocError> {
+    words.iter().flat_map(|word| word.to_le_bytes()).collect(heap)
 }
 
 fn answered(rt: &HostRuntime, what: &str, answer: Answer) -> io::Result<()> {
     match answer {
         Ok(None) => println!(rt; "{what}: taken"),
         Ok(Some(amount)) => println!(rt; "{what}: {amount}"),
-        Err(refusal) => refused(rt, what, refusal),
+        Err(refusal) => println!(rt; "{what}: refused {refusal}"),
     }
 }
 
 fn measured(rt: &HostRuntime, what: &str, answer: Result<usize, Refusal>) -> io::Result<()> {
     match answer {
         Ok(length) => println!(rt; "{what}: {length} bytes"),
-        Err(refusal) => refused(rt, what, refusal),
+        Err(refusal) => println!(rt; "{what}: refused {refusal}"),
     }
 }
 
@@ -268,50 +242,39 @@ fn judge<S: Scale>(cycle: &mut Cycle<S>, case: &[u8], proposal: &[u8]) -> Result
     cycle.submit(proposal)
 }
 
-// Judges on a cycle that is lent, and writes the answer.
-fn propose_on<S: Scale>(
+// Judges on a fresh cycle, and writes the answer.
+fn propose<S: Scale>(
     rt: &HostRuntime,
     what: &str,
-    cycle: &mut Cycle<S>,
-    case: &[u8],
-    proposal: &[u8],
+    case: &[i32],
+    proposal: &[i32],
 ) -> io::Result<()> {
-    match judge(cycle, case, proposal) {
-        Ok(()) => standing(rt, what, cycle.totals()),
-        Err(refusal) => refused(rt, what, refusal),
-    }
-}
-
-fn propose<S: Scale>(rt: &HostRuntime, what: &str, case: &[u8], proposal: &[u8]) -> io::Result<()> {
+    let case = bytes_of(rt.alloc(), case)?;
+    let proposal = bytes_of(rt.alloc(), proposal)?;
     let mut cycle = Cycle::<S>::new(rt.alloc())?;
-    propose_on(rt, what, &mut cycle, case, proposal)
+    match judge(&mut cycle, case.as_slice(), proposal.as_slice()) {
+        Ok(()) => standing(rt, what, cycle.totals()),
+        Err(refusal) => println!(rt; "{what}: refused {refusal}"),
+    }
 }
 
 // The proposal with other amounts, and other money in the price of area 1.
 fn two_areas(rt: &HostRuntime, row: &Amounts) -> io::Result<()> {
-    let case = bytes_of(&CASE);
-    let mut proposal = bytes_of(&PROPOSAL);
-    change(&mut proposal, 36, row.satisfied);
-    change(&mut proposal, 44, row.flow);
-    change(&mut proposal, 48, row.up);
-    change(&mut proposal, 52, row.down);
-    change(&mut proposal, 96, row.money);
-    propose::<Activation>(rt, row.what, &case[0..72], &proposal)
+    let mut proposal = PROPOSAL;
+    proposal[9] = row.satisfied;
+    proposal[11] = row.flow;
+    proposal[12] = row.up;
+    proposal[13] = row.down;
+    proposal[24] = row.money;
+    propose::<Activation>(rt, row.what, &CASE, &proposal)
 }
 
 fn one_area(rt: &HostRuntime, row: &Price) -> io::Result<()> {
-    let case = bytes_of(&ONE_AREA);
-    let mut proposal = bytes_of(&NOTHING);
-    change(&mut proposal, 40, row.satisfaction);
-    change(&mut proposal, 48, row.volume);
-    change(&mut proposal, 56, row.money);
-    propose::<Activation>(rt, row.what, &case[0..32], &proposal[0..64])
-}
-
-fn netting(rt: &HostRuntime) -> io::Result<()> {
-    let case = bytes_of(&NO_BIDS);
-    let proposal = bytes_of(&NETTED);
-    propose::<Netting>(rt, "netting without bids", &case[0..48], &proposal[0..64])
+    let mut proposal = NOTHING;
+    proposal[10] = row.satisfaction;
+    proposal[12] = row.volume;
+    proposal[14] = row.money;
+    propose::<Activation>(rt, row.what, &ONE_AREA, &proposal)
 }
 
 fn table(rt: &HostRuntime) -> io::Result<()> {
@@ -321,13 +284,14 @@ fn table(rt: &HostRuntime) -> io::Result<()> {
     for row in &PRICES {
         one_area(rt, row)?;
     }
-    netting(rt)
+    propose::<Netting>(rt, "netting without bids", &NO_BIDS, &NETTED)
 }
 
 fn load_demand<S: Scale>(rt: &HostRuntime, cycle: &mut Cycle<S>, row: &Demand) -> io::Result<()> {
-    let mut case = bytes_of(&CASE);
-    change(&mut case, 28, row.demand);
-    answered(rt, row.what, cycle.make(Call::Load(&case[0..72])))
+    let mut case = CASE;
+    case[7] = row.demand;
+    let case = bytes_of(rt.alloc(), &case)?;
+    answered(rt, row.what, cycle.make(Call::Load(case.as_slice())))
 }
 
 fn demands<S: Scale>(rt: &HostRuntime, cycle: &mut Cycle<S>) -> io::Result<()> {
@@ -338,69 +302,60 @@ fn demands<S: Scale>(rt: &HostRuntime, cycle: &mut Cycle<S>) -> io::Result<()> {
 }
 
 fn empty<S: Scale>(rt: &HostRuntime, cycle: &mut Cycle<S>) -> io::Result<()> {
-    let empty = bytes_of(&EMPTY);
-    answered(
-        rt,
-        "empty case of 28 bytes",
-        cycle.make(Call::Load(&empty[0..28])),
-    )?;
-    answered(rt, "27 bytes", cycle.make(Call::Load(&empty[0..27])))
+    let mut empty = bytes_of(rt.alloc(), &EMPTY)?;
+    let whole = cycle.make(Call::Load(empty.as_slice()));
+    answered(rt, "empty case of 28 bytes", whole)?;
+    let _ = empty.pop();
+    let cut = cycle.make(Call::Load(empty.as_slice()));
+    answered(rt, "27 bytes", cut)
 }
 
 // The case loaded, and the proposal submitted.
-fn submit<S: Scale>(cycle: &mut Cycle<S>) {
-    let _ = judge(cycle, &bytes_of(&CASE)[0..72], &bytes_of(&PROPOSAL));
+fn submit<S: Scale>(heap: Global, cycle: &mut Cycle<S>) -> Result<(), AllocError> {
+    let case = bytes_of(heap, &CASE)?;
+    let proposal = bytes_of(heap, &PROPOSAL)?;
+    let _ = judge(cycle, case.as_slice(), proposal.as_slice());
+    Ok(())
 }
 
 // Calls in turn, from where the proposal stands.
 fn steps<S: Scale>(rt: &HostRuntime, cycle: &mut Cycle<S>, steps: &[Step]) -> io::Result<()> {
-    submit(cycle);
+    submit(rt.alloc(), cycle)?;
     for step in steps {
         answered(rt, step.what, cycle.make(step.call))?;
     }
     Ok(())
 }
 
-fn is_case(bytes: &[u8]) -> bool {
-    bytes == &bytes_of(&CASE)[0..72]
-}
-
 fn writing<S: Scale>(rt: &HostRuntime, cycle: &mut Cycle<S>) -> io::Result<()> {
-    submit(cycle);
+    submit(rt.alloc(), cycle)?;
     let mut out = [0; 72];
     measured(rt, "write the case into 72 bytes", cycle.write(&mut out))?;
-    println!(rt; "the same bytes: {}", is_case(&out))?;
+    let case = bytes_of(rt.alloc(), &CASE)?;
+    println!(rt; "the same bytes: {}", case.as_slice() == out.as_slice())?;
     let mut short = [0; 71];
     measured(rt, "write the case into 71 bytes", cycle.write(&mut short))
 }
 
-fn in_turn<S: Scale>(rt: &HostRuntime, cycle: &mut Cycle<S>) -> io::Result<()> {
-    demands(rt, cycle)?;
-    empty(rt, cycle)?;
-    steps(rt, cycle, &REVISING)?;
-    steps(rt, cycle, &LIMITING)?;
-    steps(rt, cycle, &WITHDRAWING)?;
-    writing(rt, cycle)
-}
-
-// All on one cycle, which is lent: every part starts by loading a case.
+// All on one cycle: every part starts by loading a case.
 fn calls<S: Scale>(rt: &HostRuntime) -> io::Result<()> {
     let mut cycle = Cycle::<S>::new(rt.alloc())?;
-    in_turn(rt, &mut cycle)
-}
-
-fn release<S>(rt: &HostRuntime, closed: &mut Closed<S>) -> io::Result<()> {
-    let mut short = [0; 143];
-    measured(rt, "release into 143 bytes", closed.release(&mut short))?;
-    let mut enough = [0; 144];
-    measured(rt, "release into 144 bytes", closed.release(&mut enough))
+    demands(rt, &mut cycle)?;
+    empty(rt, &mut cycle)?;
+    steps(rt, &mut cycle, &REVISING)?;
+    steps(rt, &mut cycle, &LIMITING)?;
+    steps(rt, &mut cycle, &WITHDRAWING)?;
+    writing(rt, &mut cycle)
 }
 
 fn releasing<S: Scale>(rt: &HostRuntime) -> io::Result<()> {
     let mut cycle = Cycle::<S>::new(rt.alloc())?;
-    submit(&mut cycle);
+    submit(rt.alloc(), &mut cycle)?;
     let mut closed = cycle.close();
-    release(rt, &mut closed)
+    let mut short = [0; 143];
+    measured(rt, "release into 143 bytes", closed.release(&mut short))?;
+    let mut enough = [0; 144];
+    measured(rt, "release into 144 bytes", closed.release(&mut enough))
 }
 
 fn nothing_to_release<S: Scale>(rt: &HostRuntime) -> io::Result<()> {
@@ -421,11 +376,11 @@ fn cycles<S: Scale>(rt: &HostRuntime) -> io::Result<()> {
 }
 
 // The proposal, with so many levels in word 7.
-fn levels<S: Scale>(rt: &HostRuntime, what: &str, levels: i32) -> io::Result<()> {
-    let case = bytes_of(&CASE);
-    let mut proposal = bytes_of(&PROPOSAL);
-    change(&mut proposal, 28, levels);
-    propose::<S>(rt, what, &case[0..72], &proposal)
+fn levels<S: Scale>(rt: &HostRuntime, levels: i32) -> io::Result<()> {
+    let mut proposal = PROPOSAL;
+    proposal[7] = levels;
+    let what = format!(in rt.alloc(); "too large a pair, {levels} in word 7")?;
+    propose::<S>(rt, what.as_str(), &CASE, &proposal)
 }
 
 // Each doubles the levels: 3, 6, 12, and then more than the 16 that a scale may have.
@@ -438,9 +393,10 @@ fn from_six<S: Scale>(rt: &HostRuntime) -> io::Result<()> {
 }
 
 fn from_twelve<S: Scale>(rt: &HostRuntime) -> io::Result<()> {
-    levels::<Pair<S, S>>(rt, "too large a pair, 3 in word 7", 3)?;
-    levels::<Pair<S, S>>(rt, "too large a pair, 16 in word 7", 16)?;
-    levels::<Pair<S, S>>(rt, "too large a pair, 17 in word 7", 17)
+    for count in [3, 16, 17] {
+        levels::<Pair<S, S>>(rt, count)?;
+    }
+    Ok(())
 }
 
 fn main(rt: HostRuntime) -> io::Result<()> {

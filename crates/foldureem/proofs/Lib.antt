@@ -1,4 +1,3 @@
 mod Best
-mod Judged
 mod Released
 mod Pairs

@@ -2,6 +2,7 @@
 --
 --   told              number, layer and place, 0 0 0 where the proposal is taken, and how many bytes were written
 --   no_memory         what is told where there was no memory; no question has this number
+--   told_if           what is told of a call's answer
 --   Answered          what C is told of a case and a proposal, and what the buffer then holds
 --   cut               the bytes from a start to an end; none where these are no part
 --   taken_among       how many of the pairs of a case and a proposal that lie one behind the other are taken
@@ -9,6 +10,8 @@
 use Rattle.std.specs.Prelude.{◌≡◌, ℕ, ◌+◌, ◌-◌, Bool, cond, ◌&&◌, ◌⊎◌, List, [], ◌∷◌, length, take, drop, is_ok, Ok, Err, Result, nat_le}
 use Rattle.market.specs.declared.refusal.Refusal.{Refusal}
 use Rattle.market.specs.Refusals.{number, layer, place}
+use Rattle.foldureem.specs.declared.failure.Failure.{Failure}
+use Rattle.foldureem.specs.declared.failure.Failure.TheVariants.{OutOfMemory, Refused}
 use Rattle.foldureem.specs.declared.told.FoldureemVerdict.{FoldureemVerdict}
 use Rattle.foldureem.specs.Verdicts.{scale_for, judged_answer, answer_for, buffer_after}
 
@@ -19,9 +22,10 @@ told (Err refusal) = record { number = number refusal; layer = layer refusal; pl
 abbrev pub no_memory : FoldureemVerdict
 no_memory = record { number = 4294967295; layer = 0; place = 0; length = 0 }
 
-abbrev pub told_if : {Y : Type 0} → Result (Result ℕ Refusal) Y → FoldureemVerdict
-told_if (Ok answer) = told answer
-told_if (Err e) = no_memory
+abbrev pub told_if : Result ℕ Failure → FoldureemVerdict
+told_if (Ok bytes) = told (Ok bytes)
+told_if (Err (Refused refusal)) = told (Err refusal)
+told_if (Err OutOfMemory) = no_memory
 
 abbrev pub Answered : (case proposal before : List ℕ) → FoldureemVerdict → (after : List ℕ) → Type 0
 Answered case proposal before verdict after =

@@ -7,15 +7,20 @@
 --   answer_for        judge, then the length of the listing where it fits the buffer
 --   buffer_after      the buffer afterwards: the listing and what lay behind it, or the buffer as it was
 --   NothingBeats      no selection within the limits of the case in the bytes is better than the one in the proposal
+--   IfMade            where there was memory, what holds of the answer
 --   if_made           what a call made, or what it leaves where it had no memory
-use Rattle.std.specs.Prelude.{ℕ, Bool, cond, ◌&&◌, List, length, Ok, Err, Result, ◌==◌, nat_le, slice_index}
+--   failure_text      what a failure prints
+use Rattle.std.specs.Prelude.{ℕ, Bool, cond, ◌&&◌, List, ◌++◌, length, Ok, Err, Result, ◌==◌, nat_le, slice_index, codes}
 use Rattle.scale.specs.Meaning.{Meaning}
 use Rattle.scale.specs.Pair.{netting, activation}
 use Rattle.market.specs.First.{and_then}
 use Rattle.market.specs.Totals.{Unbeaten}
 use Rattle.market.specs.declared.refusal.Refusal.{Refusal}
+use Rattle.market.specs.Refusals.{displayed}
 use Rattle.layout.specs.CaseBytes.{case_in}
 use Rattle.listing.specs.Lines.{listing}
+use Rattle.foldureem.specs.declared.failure.Failure.{Failure}
+use Rattle.foldureem.specs.declared.failure.Failure.TheVariants.{OutOfMemory, Refused}
 use Rattle.cycle.specs.Calls.{load_answer, submit_answer, proposed, room, put}
 
 abbrev pub nets : List ℕ → Bool
@@ -48,7 +53,18 @@ put_if (Err refusal) text buffer = buffer
 abbrev pub buffer_after : (m : Meaning) → (case proposal buffer : List ℕ) → List ℕ
 buffer_after m case proposal buffer = put_if (judged_answer m case proposal) (listed case proposal) buffer
 
+-- where there was memory: what holds of the answer, a number of bytes or a refusal
+abbrev pub IfMade : Result ℕ Failure → (Result ℕ Refusal → Type 0) → Type 0
+IfMade (Ok bytes) P = P (Ok bytes)
+IfMade (Err (Refused refusal)) P = P (Err refusal)
+IfMade (Err OutOfMemory) P = Unit {0}
+
 -- what the call made, or what it leaves where it had no memory
-abbrev pub if_made : {X Y : Type 0} → Result X Y → (made left : List ℕ) → List ℕ
-if_made (Ok x) made left = made
-if_made (Err e) made left = left
+abbrev pub if_made : Result ℕ Failure → (made left : List ℕ) → List ℕ
+if_made (Ok bytes) made left = made
+if_made (Err (Refused refusal)) made left = made
+if_made (Err OutOfMemory) made left = left
+
+abbrev pub failure_text : Failure → List ℕ
+failure_text OutOfMemory = codes "out of memory"
+failure_text (Refused refusal) = codes "refused " ++ displayed refusal

@@ -2,7 +2,7 @@ use Rattle.std.proofs.Common.{◌≡◌, true, false, is_ok, ap, ◌∙◌}
 use Rattle.scale.specs.Meaning.{Meaning}
 use Rattle.foldureem.specs.Verdicts.{judged_answer}
 use Rattle.foldureem.proofs.Released.{on_scale}
-use Rattle.foldureem.proofs.many.takes.Goals as goal
+use Rattle.foldureem.proofs.many.Cycles.takes.Goals as goal
 
 pub returns-then-nets_only : goal.returns-then-nets_only
 returns-then-nets_only c =
