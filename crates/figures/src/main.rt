@@ -208,7 +208,10 @@ static WITHDRAWING: [Step; 4] = [
 
 // Words as the bytes of a file.
 fn bytes_of(heap: Global, words: &[i32]) -> Result<Vec<u8>, AllocError> {
-    words.iter().flat_map(|word| word.to_le_bytes()).collect(heap)
+    words
+        .iter()
+        .flat_map(|word| word.to_le_bytes())
+        .collect(heap)
 }
 
 fn answered(rt: &HostRuntime, what: &str, answer: Answer) -> io::Result<()> {

@@ -2,9 +2,10 @@
 // The file `stdout` has what the rules say of each: number, layer and place of the first question that gets a no, or zeros.
 #![tactic(auto)]
 
-use layout::{Counts, Proposal, keep, load, read_proposal};
+use layout::{Counts, keep, load, read_proposal};
 use market::{Amounts, Book, Refusal};
-use std::io;
+use std::alloc::{AllocError, Global};
+use std::{fmt, io};
 use writing::{write_case, write_proposal};
 
 // Two areas with demands 80 and -120, a border from 0 to 1 with limits 50 and 50, an up bid (100 at 3,000) and a down bid (150 at 5,000).
@@ -108,57 +109,42 @@ const OTHER_COUNTS: Counts = Counts {
 };
 
 fn change(bytes: &mut [u8], at: usize, value: u32) {
-    if at < bytes.len() && bytes.len() - at >= 4 {
-        let [a, b, c, d] = value.to_le_bytes();
-        bytes[at] = a;
-        bytes[at + 1] = b;
-        bytes[at + 2] = c;
-        bytes[at + 3] = d;
+    if let Some(word) = bytes
+        .get_mut(at..)
+        .and_then(|rest| rest.first_chunk_mut::<4>())
+    {
+        *word = value.to_le_bytes();
     }
 }
 
-fn answer(refusal: Option<Refusal>) -> (u8, u8, usize) {
-    match refusal {
-        Some(refusal) => (refusal.number(), refusal.layer(), refusal.place()),
-        None => (0, 0, 0),
+fn change_all(bytes: &mut [u8], changes: &[(usize, u32)]) {
+    for (at, value) in changes {
+        change(bytes, *at, *value);
     }
 }
 
-fn case_answer(book: &mut Book, bytes: &[u8], bids: bool) -> (u8, u8, usize) {
-    answer(load(book, bytes, bids).err())
+// What reading or writing answers: the refusal, or three zeros where there is none.
+#[derive(Clone, Copy)]
+struct Said(Option<Refusal>);
+
+impl fmt::Display for Said {
+    fn fmt<W: fmt::Write>(&self, f: &mut fmt::Formatter<W>) -> fmt::Result {
+        match self.0 {
+            Some(refusal) => write!(f, "{refusal}"),
+            None => write!(f, "0 0 0"),
+        }
+    }
 }
 
-fn proposal_answer(bytes: &[u8], counts: Counts, levels: usize) -> (u8, u8, usize) {
+fn said_of_case(book: &mut Book, bytes: &[u8], bids: bool) -> Said {
+    Said(load(book, bytes, bids).err())
+}
+
+fn said_of_proposal(bytes: &[u8], counts: Counts, levels: usize) -> Said {
     match read_proposal(bytes, counts, levels) {
-        Ok(_) => answer(None),
-        Err(refusal) => answer(Some(refusal)),
+        Ok(_) => Said(None),
+        Err(refusal) => Said(Some(refusal)),
     }
-}
-
-fn told(rt: &HostRuntime, what: &str, answer: (u8, u8, usize)) -> io::Result<()> {
-    let (number, layer, place) = answer;
-    println!(rt; "{what} {number} {layer} {place}")
-}
-
-fn told_cut(
-    rt: &HostRuntime,
-    what: &str,
-    length: usize,
-    answer: (u8, u8, usize),
-) -> io::Result<()> {
-    let (number, layer, place) = answer;
-    println!(rt; "cut {what} {length} {number} {layer} {place}")
-}
-
-fn told_change(
-    rt: &HostRuntime,
-    what: &str,
-    at: usize,
-    value: u32,
-    answer: (u8, u8, usize),
-) -> io::Result<()> {
-    let (number, layer, place) = answer;
-    println!(rt; "{what} {at} {value} {number} {layer} {place}")
 }
 
 // How many bytes were written, are they the same, and is what lies behind them left as it was?
@@ -173,142 +159,129 @@ fn told_written(
 }
 
 fn changed_cases(rt: &HostRuntime, book: &mut Book) -> io::Result<()> {
-    for (at, value) in CASE_CHANGES.iter() {
+    for (at, value) in &CASE_CHANGES {
         let mut bytes = CASE;
         change(&mut bytes, *at, *value);
-        told_change(rt, "case", *at, *value, case_answer(book, &bytes, true))?;
+        let said = said_of_case(book, &bytes, true);
+        println!(rt; "case {at} {value} {said}")?;
     }
     Ok(())
 }
 
 fn cut_cases(rt: &HostRuntime, book: &mut Book) -> io::Result<()> {
-    for length in 0..72 {
-        told_cut(
-            rt,
-            "case",
-            length,
-            case_answer(book, &CASE[0..length], true),
-        )?;
+    for length in 0..CASE.len() {
+        let said = said_of_case(book, &CASE[..length], true);
+        println!(rt; "cut case {length} {said}")?;
     }
     Ok(())
 }
 
+// Bytes with one more behind them.
+fn prolonged(heap: Global, bytes: &[u8]) -> Result<Vec<u8>, AllocError> {
+    let mut longer = bytes.to_vec(heap)?;
+    longer.push(0)?;
+    Ok(longer)
+}
+
 fn whole_cases(rt: &HostRuntime, book: &mut Book) -> io::Result<()> {
-    told(rt, "whole case", case_answer(book, &CASE, true))?;
-    let mut longer = [0; 73];
-    longer[0..72].copy_from_slice(&CASE);
-    told(rt, "longer case", case_answer(book, &longer, true))
+    println!(rt; "whole case {}", said_of_case(book, &CASE, true))?;
+    let longer = prolonged(rt.alloc(), &CASE)?;
+    println!(rt;
+        "longer case {}",
+        said_of_case(book, longer.as_slice(), true)
+    )
 }
 
 // 48 areas, 128 borders from 0 to 1 and 1,024 bids of area 0.
-fn full_case(out: &mut [u8]) {
-    change(out, 0, 1);
-    change(out, 4, 48);
-    change(out, 8, 28);
-    change(out, 12, 128);
-    change(out, 16, 220);
-    change(out, 20, 1024);
-    change(out, 24, 1756);
-    for border in 0..128 {
-        change(out, 220 + 12 * border, 65536);
+fn full_case() -> [u8; 14044] {
+    let mut full = [0; 14044];
+    change_all(
+        &mut full,
+        &[
+            (0, 1),
+            (4, 48),
+            (8, 28),
+            (12, 128),
+            (16, 220),
+            (20, 1024),
+            (24, 1756),
+        ],
+    );
+    for border in full[220..1756].chunks_exact_mut(12) {
+        change(border, 0, 65536);
     }
-}
-
-fn empty_case(out: &mut [u8]) {
-    change(out, 0, 1);
-    change(out, 8, 28);
-    change(out, 16, 28);
-    change(out, 24, 28);
-}
-
-fn faults(out: &mut [u8]) {
-    change(out, 32, 20000001);
-    change(out, 36, 0);
-    change(out, 52, 9999001);
+    full
 }
 
 fn other_cases(rt: &HostRuntime, book: &mut Book) -> io::Result<()> {
-    told(rt, "no bids", case_answer(book, &CASE, false))?;
+    println!(rt; "no bids {}", said_of_case(book, &CASE, false))?;
     let mut empty = [0; 28];
-    empty_case(&mut empty);
-    told(rt, "empty case", case_answer(book, &empty, false))?;
-    let mut full = [0; 14044];
-    full_case(&mut full);
-    told(rt, "full case", case_answer(book, &full, true))?;
+    change_all(&mut empty, &[(0, 1), (8, 28), (16, 28), (24, 28)]);
+    println!(rt; "empty case {}", said_of_case(book, &empty, false))?;
+    println!(rt; "full case {}", said_of_case(book, &full_case(), true))?;
     let mut several = CASE;
-    faults(&mut several);
-    told(rt, "several faults", case_answer(book, &several, true))
+    change_all(&mut several, &[(32, 20000001), (36, 0), (52, 9999001)]);
+    println!(rt; "several faults {}", said_of_case(book, &several, true))
 }
 
 fn changed_proposals(rt: &HostRuntime) -> io::Result<()> {
-    for (at, value) in PROPOSAL_CHANGES.iter() {
+    for (at, value) in &PROPOSAL_CHANGES {
         let mut bytes = PROPOSAL;
         change(&mut bytes, *at, *value);
-        told_change(
-            rt,
-            "proposal",
-            *at,
-            *value,
-            proposal_answer(&bytes, COUNTS, 3),
-        )?;
+        let said = said_of_proposal(&bytes, COUNTS, 3);
+        println!(rt; "proposal {at} {value} {said}")?;
     }
     Ok(())
 }
 
 fn cut_proposals(rt: &HostRuntime) -> io::Result<()> {
-    for length in 0..104 {
-        told_cut(
-            rt,
-            "proposal",
-            length,
-            proposal_answer(&PROPOSAL[0..length], COUNTS, 3),
-        )?;
+    for length in 0..PROPOSAL.len() {
+        let said = said_of_proposal(&PROPOSAL[..length], COUNTS, 3);
+        println!(rt; "cut proposal {length} {said}")?;
     }
     Ok(())
 }
 
 fn whole_proposals(rt: &HostRuntime) -> io::Result<()> {
-    told(rt, "whole proposal", proposal_answer(&PROPOSAL, COUNTS, 3))?;
-    let mut longer = [0; 105];
-    longer[0..104].copy_from_slice(&PROPOSAL);
-    told(rt, "longer proposal", proposal_answer(&longer, COUNTS, 3))
-}
-
-fn other_proposals(rt: &HostRuntime) -> io::Result<()> {
-    told(rt, "one level", proposal_answer(&PROPOSAL, COUNTS, 1))?;
-    let mut levels = PROPOSAL;
-    change(&mut levels, 28, 17);
-    told(rt, "seventeen levels", proposal_answer(&levels, COUNTS, 17))?;
-    told(
-        rt,
-        "other counts",
-        proposal_answer(&PROPOSAL, OTHER_COUNTS, 3),
+    println!(rt; "whole proposal {}", said_of_proposal(&PROPOSAL, COUNTS, 3))?;
+    let longer = prolonged(rt.alloc(), &PROPOSAL)?;
+    println!(rt;
+        "longer proposal {}",
+        said_of_proposal(longer.as_slice(), COUNTS, 3)
     )
 }
 
-fn satisfied_read(rt: &HostRuntime, proposal: &Proposal) -> io::Result<()> {
+fn other_proposals(rt: &HostRuntime) -> io::Result<()> {
+    println!(rt; "one level {}", said_of_proposal(&PROPOSAL, COUNTS, 1))?;
+    let mut levels = PROPOSAL;
+    change(&mut levels, 28, 17);
+    println!(rt;
+        "seventeen levels {}",
+        said_of_proposal(&levels, COUNTS, 17)
+    )?;
+    println!(rt;
+        "other counts {}",
+        said_of_proposal(&PROPOSAL, OTHER_COUNTS, 3)
+    )
+}
+
+fn amounts_read(rt: &HostRuntime) -> io::Result<()> {
+    let Ok(proposal) = read_proposal(&PROPOSAL, COUNTS, 3) else {
+        return println!(rt; "no proposal");
+    };
     println!(rt;
         "satisfied {} {} {}",
         proposal.satisfied(0),
         proposal.satisfied(1),
         proposal.satisfied(2)
-    )
-}
-
-fn flows_read(rt: &HostRuntime, proposal: &Proposal) -> io::Result<()> {
-    println!(rt; "flow {} {}", proposal.flow(0), proposal.flow(1))
-}
-
-fn activated_read(rt: &HostRuntime, proposal: &Proposal) -> io::Result<()> {
+    )?;
+    println!(rt; "flow {} {}", proposal.flow(0), proposal.flow(1))?;
     println!(rt;
         "activated {} {} {}",
         proposal.activated(0),
         proposal.activated(1),
         proposal.activated(2)
-    )
-}
-
-fn prices_read(rt: &HostRuntime, proposal: &Proposal) -> io::Result<()> {
+    )?;
     println!(rt;
         "prices {} {} {}",
         proposal.price(0).len(),
@@ -317,21 +290,10 @@ fn prices_read(rt: &HostRuntime, proposal: &Proposal) -> io::Result<()> {
     )
 }
 
-fn amounts_read(rt: &HostRuntime) -> io::Result<()> {
-    let Ok(proposal) = read_proposal(&PROPOSAL, COUNTS, 3) else {
-        return println!(rt; "no proposal");
-    };
-    satisfied_read(rt, &proposal)?;
-    flows_read(rt, &proposal)?;
-    activated_read(rt, &proposal)?;
-    prices_read(rt, &proposal)
-}
-
 fn case_loaded(rt: &HostRuntime, book: &mut Book) -> io::Result<()> {
     let _ = load(book, &CASE, true);
-    let demands = book.demands.as_slice();
-    if demands.len() == 2 {
-        println!(rt; "loaded {} {}", demands[0], demands[1])?;
+    if let [first, second] = book.demands.as_slice() {
+        println!(rt; "loaded {first} {second}")?;
     }
     Ok(())
 }
@@ -339,10 +301,15 @@ fn case_loaded(rt: &HostRuntime, book: &mut Book) -> io::Result<()> {
 fn case_written(rt: &HostRuntime, book: &Book) -> io::Result<()> {
     let mut out = [255; 74];
     let size = write_case(book, &mut out).unwrap_or(0);
-    let same = out[0..72] == CASE[0..72];
-    let left = out[72] == 255 && out[73] == 255;
-    told_written(rt, "written", size, same, left)?;
-    told(rt, "room", answer(write_case(book, &mut out[0..71]).err()))
+    let (written, behind) = out.split_at(CASE.len());
+    told_written(
+        rt,
+        "written",
+        size,
+        written == CASE.as_slice(),
+        behind == [255, 255].as_slice(),
+    )?;
+    println!(rt; "room {}", Said(write_case(book, &mut out[0..71]).err()))
 }
 
 fn proposal_kept(rt: &HostRuntime, amounts: &mut Amounts) -> io::Result<()> {
@@ -356,11 +323,18 @@ fn proposal_written(rt: &HostRuntime, amounts: &Amounts) -> io::Result<()> {
     let prices = [0, 1, 3000, 0, -1, 5000];
     let mut out = [255; 106];
     let size = write_proposal(amounts, &prices, 3, &mut out).unwrap_or(0);
-    let same = out[0..104] == PROPOSAL[0..104];
-    let left = out[104] == 255 && out[105] == 255;
-    told_written(rt, "proposed", size, same, left)?;
-    let room = write_proposal(amounts, &prices, 3, &mut out[0..103]);
-    told(rt, "room", answer(room.err()))
+    let (written, behind) = out.split_at(PROPOSAL.len());
+    told_written(
+        rt,
+        "proposed",
+        size,
+        written == PROPOSAL.as_slice(),
+        behind == [255, 255].as_slice(),
+    )?;
+    println!(rt;
+        "room {}",
+        Said(write_proposal(amounts, &prices, 3, &mut out[0..103]).err())
+    )
 }
 
 fn cases(rt: &HostRuntime, book: &mut Book) -> io::Result<()> {
@@ -378,18 +352,14 @@ fn proposals(rt: &HostRuntime) -> io::Result<()> {
     amounts_read(rt)
 }
 
-// All in turn; the memory for a case and for amounts is lent.
-fn tables(rt: &HostRuntime, book: &mut Book, amounts: &mut Amounts) -> io::Result<()> {
-    cases(rt, book)?;
-    proposals(rt)?;
-    case_loaded(rt, book)?;
-    case_written(rt, book)?;
-    proposal_kept(rt, amounts)?;
-    proposal_written(rt, amounts)
-}
-
+// All in turn, with one book and one table of amounts.
 fn main(rt: HostRuntime) -> io::Result<()> {
     let mut book = Book::reserve(rt.alloc())?;
     let mut amounts = Amounts::reserve(rt.alloc())?;
-    tables(&rt, &mut book, &mut amounts)
+    cases(&rt, &mut book)?;
+    proposals(&rt)?;
+    case_loaded(&rt, &mut book)?;
+    case_written(&rt, &book)?;
+    proposal_kept(&rt, &mut amounts)?;
+    proposal_written(&rt, &amounts)
 }

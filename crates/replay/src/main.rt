@@ -5,15 +5,18 @@ ghost use Rattle.std.specs.Prelude.{◌≡◌};
 ghost use Rattle.cycle.specs.Sent.{sent};
 ghost use Rattle.replay.specs.Plans.{intended};
 
-use anyhow::anyhow;
-use cycle::{Answer, Call, Item};
+use anyhow::{Context, anyhow, ensure};
+use cycle::{Call, Item};
+use program::{Program, Told, report};
 use scale::{Activation, Netting, Scale};
 use std::alloc::{AllocError, Global};
-use std::fmt::Debug;
+use std::fs;
 use std::process::ExitCode;
-use std::{env, fs};
+use std::str::FromStr;
 
-const HELP: &str = "usage: replay [CALLS]
+const PROGRAM: Program = Program {
+    name: "replay",
+    help: "usage: replay [CALLS]
 
 Reads the file `calls` in this folder, or the file named, makes the calls in it
 on a fresh cycle, one after the other, and writes one answer to a line: `taken`,
@@ -33,38 +36,17 @@ or a file that can't be read, no memory, wrong arguments): a message on standard
 error, nothing on standard output, and status 1.
 
   --help     writes this text
-  --version  writes the version";
+  --version  writes the version",
+    version: "replay 0.1.0",
+};
 
-const VERSION: &str = "replay 0.1.0";
-
-// What the arguments ask for.
-#[derive(Drop)]
-enum Task {
-    Help,
-    Version,
-    Replay(String),
-}
+const NO_CALL: &str = "this is no call; see --help";
 
 // The scales that a list can name.
 #[derive(Clone, Copy)]
 enum Named {
     Activation,
     Netting,
-}
-
-// What a line says.
-#[derive(Clone, Copy)]
-enum Line<'a> {
-    Nothing,
-    Scale(Named),
-    // the name of a file that holds a case
-    Load(&'a str),
-    // the name of a file that holds a proposal
-    Submit(&'a str),
-    Revise(usize, i32),
-    Limit(usize, u32, u32),
-    Withdraw(usize),
-    Read(Item),
 }
 
 // A call that has its bytes with it.
@@ -78,82 +60,48 @@ enum Planned {
     Read(Item),
 }
 
-// All that a replay needs.
+// What a line says.
+#[derive(Drop)]
+enum Line {
+    Scale(Named),
+    Call(Planned),
+}
+
+// All that a replay needs. Where no line names a scale, it is that of activation.
 #[derive(Drop)]
 struct Plan {
-    scale: Named,
+    scale: Option<Named>,
     calls: Vec<Planned>,
-    // has a scale or a call been read?
-    begun: bool,
 }
 
 fn main(rt: HostRuntime) -> ExitCode {
     match run(&rt) {
         Ok(()) => ExitCode::SUCCESS,
-        Err(_) => ExitCode::FAILURE,
+        Err(Told) => ExitCode::FAILURE,
     }
 }
 
-// Does what is asked. Each trouble is told where it is met.
-fn run(rt: &HostRuntime) -> anyhow::Result<()> {
-    match asked(rt) {
-        Ok(Task::Help) => report(rt, say(rt, HELP)),
-        Ok(Task::Version) => report(rt, say(rt, VERSION)),
-        Ok(Task::Replay(path)) => replay(rt, path.as_str()),
-        Err(trouble) => {
-            let _ = eprintln!(rt; "replay: {trouble}");
-            Err(trouble)
-        }
-    }
-}
-
-// Tells of an error that no message has told of yet.
-fn report<T, E: Debug>(rt: &HostRuntime, answer: Result<T, E>) -> Result<T, E> {
-    if let Err(trouble) = &answer {
-        let _ = eprintln!(rt; "Error: {trouble:?}");
-    }
-    answer
-}
-
-// One path, one flag, or nothing.
-fn asked(rt: &HostRuntime) -> anyhow::Result<Task> {
-    let mut words = env::args(rt)?;
-    let _program = words.next();
-    let Some(first) = words.next() else {
-        return Ok(Task::Replay(String::from_str(rt.alloc(), "calls")?));
+// Does what the words ask for: one path, one flag, or nothing.
+fn run(rt: &HostRuntime) -> Result<(), Told> {
+    let Some(words) = PROGRAM.words(rt)? else {
+        return Ok(());
     };
-    if words.next().is_some() || first.is_empty() {
-        return Err(anyhow!("one file is wanted, or none; see --help"));
+    match words.as_slice() {
+        [] => replay(rt, "calls"),
+        [path] if !path.is_empty() => replay(rt, path.as_str()),
+        _ => Err(PROGRAM.tell(rt, "one file is wanted, or none; see --help")),
     }
-    match first.as_str() {
-        "--help" => Ok(Task::Help),
-        "--version" => Ok(Task::Version),
-        _ => Ok(Task::Replay(first)),
-    }
-}
-
-fn say(rt: &HostRuntime, text: &str) -> anyhow::Result<()> {
-    println!(rt; "{text}")?;
-    Ok(())
 }
 
 // Reads the list and all files that it names, makes the calls, and writes the answers.
-fn replay(rt: &HostRuntime, path: &str) -> anyhow::Result<()> {
-    let text = match fs::read_to_string(rt, path) {
-        Ok(text) => text,
-        Err(trouble) => {
-            let _ = eprintln!(rt; "replay: {path}: {trouble}");
-            return Err(trouble.into());
-        }
-    };
+fn replay(rt: &HostRuntime, path: &str) -> Result<(), Told> {
+    let text = fs::read_to_string(rt, path).map_err(|trouble| PROGRAM.tell(
+        rt,
+        format_args!("{path}: {trouble}"),
+    ))?;
     let plan = plan_of(rt, path, text.as_str())?;
-    match answers(rt.alloc(), &plan) {
-        Ok(answers) => report(rt, release(rt, answers.as_str())),
-        Err(trouble) => {
-            let _ = eprintln!(rt; "replay: {trouble}");
-            Err(trouble.into())
-        }
-    }
+    let answers = answers(rt.alloc(), &plan).map_err(|trouble| PROGRAM.tell(rt, trouble))?;
+    report(rt, release(rt, answers.as_str()))
 }
 
 fn release(rt: &HostRuntime, answers: &str) -> anyhow::Result<()> {
@@ -162,192 +110,102 @@ fn release(rt: &HostRuntime, answers: &str) -> anyhow::Result<()> {
 }
 
 // The calls of a list, with the files that they name; where a line can't be read, a message that names it.
-fn plan_of(rt: &HostRuntime, path: &str, text: &str) -> anyhow::Result<Plan> {
+fn plan_of(rt: &HostRuntime, path: &str, text: &str) -> Result<Plan, Told> {
     let mut plan = Plan {
-        scale: Named::Activation,
+        scale: None,
         calls: Vec::new(rt.alloc()),
-        begun: false,
     };
-    let mut number = 0u64;
-    for line in text.lines() {
-        number = number.saturating_add(1);
-        if let Err(trouble) = take(rt, &mut plan, line) {
-            let _ = eprintln!(rt; "replay: {path}, line {number}: {line}: {trouble}");
-            return Err(trouble);
-        }
+    for (number, line) in (1u64..).zip(text.lines()) {
+        plan.take(rt, line).map_err(|trouble| {
+            PROGRAM.tell(rt, format_args!("{path}, line {number}: {line}: {trouble}"))
+        })?;
     }
     Ok(plan)
 }
 
-// Adds what a line says to the plan.
-fn take(rt: &HostRuntime, plan: &mut Plan, line: &str) -> anyhow::Result<()> {
-    match understood(line) {
-        Some(Line::Nothing) => Ok(()),
-        Some(Line::Scale(scale)) => name_scale(plan, scale),
-        Some(said) => {
-            plan.begun = true;
-            take_call(rt, &mut plan.calls, said)
+impl Plan {
+    // Adds what a line says.
+    fn take(&mut self, rt: &HostRuntime, line: &str) -> anyhow::Result<()> {
+        match understood(rt, line)? {
+            None => {}
+            Some(Line::Scale(scale)) => {
+                ensure!(
+                    self.scale.is_none() && self.calls.is_empty(),
+                    "the scale stands before the first call"
+                );
+                self.scale = Some(scale);
+            }
+            Some(Line::Call(call)) => self.calls.push(call)?,
         }
-        None => Err(anyhow!("this is no call; see --help")),
+        Ok(())
     }
 }
 
-fn name_scale(plan: &mut Plan, scale: Named) -> anyhow::Result<()> {
-    if plan.begun {
-        return Err(anyhow!("the scale stands before the first call"));
-    }
-    plan.scale = scale;
-    plan.begun = true;
-    Ok(())
-}
-
-// Adds a line's call to those before it.
-fn take_call(rt: &HostRuntime, calls: &mut Vec<Planned>, line: Line) -> anyhow::Result<()> {
-    let call = match line {
-        Line::Nothing | Line::Scale(_) => return Ok(()),
-        Line::Load(file) => Planned::Load(fs::read(rt, file)?),
-        Line::Submit(file) => Planned::Submit(fs::read(rt, file)?),
-        Line::Revise(area, demand) => Planned::Revise(area, demand),
-        Line::Limit(border, forward, backward) => Planned::Limit(border, forward, backward),
-        Line::Withdraw(bid) => Planned::Withdraw(bid),
-        Line::Read(item) => Planned::Read(item),
+// What a line says; nothing where it is blank or a remark.
+fn understood(rt: &HostRuntime, line: &str) -> anyhow::Result<Option<Line>> {
+    let words: Vec<&str> = line.split_whitespace().take(5).collect(rt.alloc())?;
+    let call = match words.as_slice() {
+        [] => return Ok(None),
+        [verb, ..] if verb.starts_with('#') => return Ok(None),
+        ["scale", "activation"] => return Ok(Some(Line::Scale(Named::Activation))),
+        ["scale", "netting"] => return Ok(Some(Line::Scale(Named::Netting))),
+        ["load", file] => Planned::Load(fs::read(rt, *file)?),
+        ["submit", file] => Planned::Submit(fs::read(rt, *file)?),
+        ["revise", area, demand] => Planned::Revise(number(area)?, number(demand)?),
+        ["limit", border, forward, backward] => {
+            Planned::Limit(number(border)?, number(forward)?, number(backward)?)
+        }
+        ["withdraw", bid] => Planned::Withdraw(number(bid)?),
+        ["read", "area", area] => Planned::Read(Item::Area(number(area)?)),
+        ["read", "border", border] => Planned::Read(Item::Border(number(border)?)),
+        ["read", "bid", bid] => Planned::Read(Item::Bid(number(bid)?)),
+        _ => return Err(anyhow!("{NO_CALL}")),
     };
-    calls.push(call)?;
-    Ok(())
+    Ok(Some(Line::Call(call)))
 }
 
-// What a line says, or nothing that can be understood.
-fn understood(line: &str) -> Option<Line<'_>> {
-    let mut words = line.split_whitespace();
-    let Some(verb) = words.next() else {
-        return Some(Line::Nothing);
-    };
-    if verb.starts_with('#') {
-        return Some(Line::Nothing);
-    }
-    let first = words.next()?;
-    let second = words.next();
-    let third = words.next();
-    if words.next().is_some() {
-        return None;
-    }
-    match (second, third) {
-        (None, None) => of_one(verb, first),
-        (Some(second), None) => of_two(verb, first, second),
-        (Some(second), Some(third)) => of_three(verb, first, second, third),
-        (None, Some(_)) => None,
-    }
-}
-
-// A verb with one word behind it, or with two, or with three.
-fn of_one<'a>(verb: &str, word: &'a str) -> Option<Line<'a>> {
-    match verb {
-        "load" => Some(Line::Load(word)),
-        "submit" => Some(Line::Submit(word)),
-        "withdraw" => Some(Line::Withdraw(index(word)?)),
-        "scale" => Some(Line::Scale(scale_named(word)?)),
-        _ => None,
-    }
-}
-
-fn of_two<'a>(verb: &str, first: &'a str, second: &str) -> Option<Line<'a>> {
-    match verb {
-        "revise" => Some(Line::Revise(index(first)?, second.parse::<i32>().ok()?)),
-        "read" => Some(Line::Read(item(first, index(second)?)?)),
-        _ => None,
-    }
-}
-
-fn of_three<'a>(verb: &str, first: &'a str, second: &str, third: &str) -> Option<Line<'a>> {
-    match verb {
-        "limit" => Some(Line::Limit(index(first)?, limit(second)?, limit(third)?)),
-        _ => None,
-    }
-}
-
-fn index(word: &str) -> Option<usize> {
-    word.parse::<usize>().ok()
-}
-
-fn limit(word: &str) -> Option<u32> {
-    word.parse::<u32>().ok()
-}
-
-fn item(kind: &str, number: usize) -> Option<Item> {
-    match kind {
-        "area" => Some(Item::Area(number)),
-        "border" => Some(Item::Border(number)),
-        "bid" => Some(Item::Bid(number)),
-        _ => None,
-    }
-}
-
-fn scale_named(scale: &str) -> Option<Named> {
-    match scale {
-        "activation" => Some(Named::Activation),
-        "netting" => Some(Named::Netting),
-        _ => None,
-    }
+fn number<N: FromStr>(word: &str) -> anyhow::Result<N>
+where
+    N::Err: Drop,
+{
+    word.parse::<N>().ok().context(NO_CALL)
 }
 
 // The answers to a plan's calls, as text.
 fn answers(heap: Global, plan: &Plan) -> Result<String, AllocError> {
-    let calls = calls_of(heap, plan.calls.as_slice())?;
-    match plan.scale {
+    let calls: Vec<Call> = plan.calls.iter().map(Call::from).collect(heap)?;
+    match plan.scale.unwrap_or(Named::Activation) {
         Named::Activation => answers_on::<Activation>(heap, calls.as_slice()),
         Named::Netting => answers_on::<Netting>(heap, calls.as_slice()),
     }
 }
 
-// The calls, lent from their plan.
-fn calls_of<'a>(heap: Global, planned: &'a [Planned]) -> Result<Vec<Call<'a>>, AllocError> {
-    let mut calls = Vec::with_capacity(heap, planned.len())?;
-    for call in planned {
-        calls.push(lent(call))?;
-    }
-    Ok(calls)
-}
-
 // The same call, with its bytes lent.
-fn lent(planned: &Planned) -> Call<'_>
-    ensures { sent result ≡ intended planned.now }
-{
-    match planned {
-        Planned::Load(bytes) => Call::Load(bytes.as_slice()),
-        Planned::Submit(bytes) => Call::Submit(bytes.as_slice()),
-        Planned::Revise(area, demand) => Call::Revise(*area, *demand),
-        Planned::Limit(border, forward, backward) => Call::Limit(*border, *forward, *backward),
-        Planned::Withdraw(bid) => Call::Withdraw(*bid),
-        Planned::Read(item) => Call::Read(*item),
+impl<'a> From<&'a Planned> for Call<'a> {
+    ghost from_gives = { λ planned call. sent call ≡ intended planned.now };
+
+    fn from(planned: &'a Planned) -> Self {
+        match planned {
+            Planned::Load(bytes) => Call::Load(bytes.as_slice()),
+            Planned::Submit(bytes) => Call::Submit(bytes.as_slice()),
+            Planned::Revise(area, demand) => Call::Revise(*area, *demand),
+            Planned::Limit(border, forward, backward) => Call::Limit(*border, *forward, *backward),
+            Planned::Withdraw(bid) => Call::Withdraw(*bid),
+            Planned::Read(item) => Call::Read(*item),
+        }
     }
 }
 
-// Makes the calls, and says what each answers.
+// Makes the calls, and says what each answers, one to a line.
 fn answers_on<S: Scale>(heap: Global, calls: &[Call]) -> Result<String, AllocError> {
     let replay = history::replay_calls::<S>(heap, calls)?;
-    text_of(heap, replay.answers.as_slice())
-}
-
-// The answers, one to a line.
-fn text_of(heap: Global, answers: &[Answer]) -> Result<String, AllocError> {
     let mut text = String::new(heap);
-    for answer in answers {
-        add(heap, &mut text, *answer)?;
+    for answer in &replay.answers {
+        match answer {
+            Ok(None) => writeln!(text, "taken")?,
+            Ok(Some(amount)) => writeln!(text, "amount {amount}")?,
+            Err(refusal) => writeln!(text, "refused {refusal}")?,
+        }
     }
     Ok(text)
-}
-
-// Adds the line of one answer.
-fn add(heap: Global, text: &mut String, answer: Answer) -> Result<(), AllocError> {
-    let line = match answer {
-        Ok(None) => String::from_str(heap, "taken\n")?,
-        Ok(Some(amount)) => format!(in heap; "amount {amount}\n")?,
-        Err(refusal) => {
-            let number = refusal.number();
-            let layer = refusal.layer();
-            let place = refusal.place();
-            format!(in heap; "refused {number} {layer} {place}\n")?
-        }
-    };
-    text.push_str(line.as_str())
 }
