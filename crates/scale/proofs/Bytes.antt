@@ -5,7 +5,9 @@
 --   read_is          what is read where the levels are at most 16
 --   pair_reads       what a pair reads, from what its parts read
 --   zip_worths       what two answers together stand for
-use Rattle.std.proofs.Common.{◌≡◌, ℕ, zero, suc, ◌+◌, ◌*◌, ◌≤◌, min, Bool, true, false, cond, ◌&&◌, eqb, leb, List, ◌∷◌, ◌++◌, length, take, drop, Some, None, Option, sym, refl, ap, ◌∙◌, zero-add, arith, w64, to_z}
+--   eight            eight bytes, as `from_le_bytes` adds them
+use Rattle.std.proofs.Common.{◌≡◌, ℕ, zero, suc, ◌+◌, ◌*◌, ◌≤◌, min, Bool, true, false, cond, ◌&&◌, eqb, leb, List, [], ◌∷◌, ◌++◌, length, take, drop, Some, None, Option, sym, refl, ap, ◌∙◌, zero-add, arith, w64, to_z}
+use Rattle.std.specs.Int.{from_le_bytes}
 use Rattle.std.specs.List.{IsSplitAt}
 use Rattle.std.specs.Option.{option_map, option_zip}
 use Rattle.std.proofs.lemmas.List.{take_at, drop_at, take-take, drop-drop, drop-take, length-take-le, length-drop}
@@ -98,3 +100,15 @@ pub zip_worths : {X Y V W : Type 0} (f : X → V) (g : Y → W) (x : Option X) (
 zip_worths f g None y = refl
 zip_worths f g (Some x) None = refl
 zip_worths f g (Some x) (Some y) = refl
+
+pub eight : (bs : List ℕ) → length bs ≡ 8 → from_le_bytes w64 bs ≡ little_endian (take 8 bs)
+eight [] l = absurd (omega arith)
+eight (a ∷ []) l = absurd (omega arith)
+eight (a ∷ b ∷ []) l = absurd (omega arith)
+eight (a ∷ b ∷ c ∷ []) l = absurd (omega arith)
+eight (a ∷ b ∷ c ∷ d ∷ []) l = absurd (omega arith)
+eight (a ∷ b ∷ c ∷ d ∷ e ∷ []) l = absurd (omega arith)
+eight (a ∷ b ∷ c ∷ d ∷ e ∷ f ∷ []) l = absurd (omega arith)
+eight (a ∷ b ∷ c ∷ d ∷ e ∷ f ∷ g ∷ []) l = absurd (omega arith)
+eight (a ∷ b ∷ c ∷ d ∷ e ∷ f ∷ g ∷ h ∷ []) l = omega arith
+eight (a ∷ b ∷ c ∷ d ∷ e ∷ f ∷ g ∷ h ∷ i ∷ bs) l = absurd (omega arith)
