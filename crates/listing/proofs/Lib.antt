@@ -1,5 +1,7 @@
 mod Both
+pub mod Chains
 pub mod Grown
+pub mod Pairs
 pub mod Prices
 pub mod Rows
 pub mod Signs

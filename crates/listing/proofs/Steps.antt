@@ -1,31 +1,17 @@
 -- The steps of the loops that sum over bids and their amounts. Assumes nothing.
 --
---   counted_more, counted_all   the amounts of an area so far, one step on and at the end
---   in_area, elsewhere          what a bid counts in an area
---   payable_first               the first bid can be paid for, and so can the others
---   cost_fits, cost_more        the cost so far and one more payment
---   cost_all                    the cost at the end
-use Rattle.std.proofs.Common.{◌≡◌, ◌≢◌, ℕ, suc, ◌+◌, ◌-◌, ◌*◌, ◌≤◌, ◌==◌, cond, T, true, false, eqb, List, [], ◌∷◌, length, ◌⊎◌, inl, inr, ℤ, pos, ◌+ℤ◌, neg_ℤ, ◌≤ℤ◌, refl, ap, ◌∙◌, subst, arith, w64, SFits, to_z, of_z}
+--   counted_all             the amounts of an area, at the end
+--   payable_first           the first bid can be paid for, and so can the others
+--   cost_fits, cost_more    the cost so far and one more payment
+use Rattle.std.proofs.Common.{◌≡◌, ℕ, suc, ◌+◌, ◌-◌, ◌*◌, ◌≤◌, T, List, [], ◌∷◌, length, ◌⊎◌, inl, inr, ℤ, pos, ◌+ℤ◌, neg_ℤ, ◌≤ℤ◌, refl, ap, ◌∙◌, subst, arith, w64, SFits, to_z, of_z}
 use Rattle.std.proofs.lemmas.Int.{ints, to_z-of_z}
-use Rattle.std.proofs.lemmas.Bool.Decides.{nat_tests}
 use Rattle.market.specs.declared.trade.Bid.{Bid}
 use Rattle.market.specs.declared.trade.Direction.{Direction}
 use Rattle.market.specs.Cases.{bid_in_range}
 use Rattle.listing.specs.Figures.{sum_in, payment, payments}
 use Rattle.listing.specs.Payable.{Payable}
 
-pub in_area : (f : Direction → ℕ → ℕ) (b : Bid) (d : Direction) (x area : ℕ) → b.area ≡ area → b.direction ≡ d → cond (b.area == area) (f b.direction x) 0 ≡ f d x
-in_area f b d x area e g = let t : eqb b.area area ≡ true = grind (arith, nat_tests) in λ i. cond (t i) (f (g i) x) 0
-
-pub elsewhere : (f : Direction → ℕ → ℕ) (b : Bid) (x area : ℕ) → b.area ≢ area → cond (b.area == area) (f b.direction x) 0 ≡ 0
-elsewhere f b x area e = let t : eqb b.area area ≡ false = grind (arith, nat_tests) in ap (λ t. cond t (f b.direction x) 0) t
-
 module _ (f : Direction → ℕ → ℕ) (area : ℕ) {bs : List Bid} {xs : List ℕ} where
-  pub counted_more : {cs : List Bid} {ys : List ℕ} (s t more whole : ℕ) (b : Bid) (x : ℕ) → s + sum_in f area bs xs ≡ whole → (bs ≡ b ∷ cs) × (xs ≡ x ∷ ys) → cond (b.area == area) (f b.direction x) 0 ≡ more → t ≡ s + more → t + sum_in f area cs ys ≡ whole
-  counted_more {cs} {ys} s t more whole b x so_far next e total =
-      let step : sum_in f area bs xs ≡ cond (b.area == area) (f b.direction x) 0 + sum_in f area cs ys = λ i. sum_in f area (next.0 i) (next.1 i) in
-      omega arith
-
   none_left : (bs ≡ []) ⊎ (xs ≡ []) → sum_in f area bs xs ≡ 0
   none_left (inl e) = ap (λ zs. sum_in f area zs xs) e
   none_left (inr e) = ap (sum_in f area bs) e ∙ no_amounts bs where
@@ -66,13 +52,3 @@ module _ {bs cs : List Bid} {xs ys : List ℕ} (a p : ℤ) (b : Bid) (x : ℕ) (
       let left = ap length next.0 in
       let step : payments bs xs ≡ payment b.direction b.price x +ℤ payments cs ys = λ i. payments (next.0 i) (next.1 i) in
       (omega (arith, ints), omega (arith, ints), omega (arith, ints))
-
-none_to_pay : {bs : List Bid} {xs : List ℕ} → (bs ≡ []) ⊎ (xs ≡ []) → payments bs xs ≡ pos 0
-none_to_pay {bs} {xs} (inl e) = ap (λ zs. payments zs xs) e
-none_to_pay {bs} {xs} (inr e) = ap (payments bs) e ∙ no_amounts bs where
-  no_amounts : (zs : List Bid) → payments zs [] ≡ pos 0
-  no_amounts [] = refl
-  no_amounts (z ∷ zs) = refl
-
-pub cost_all : {bs : List Bid} {xs : List ℕ} (a whole : ℤ) → a +ℤ payments bs xs ≡ whole → (bs ≡ []) ⊎ (xs ≡ []) → a ≡ whole
-cost_all a whole so_far e = omega (arith, ints, none_to_pay e)

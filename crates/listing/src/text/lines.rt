@@ -1,7 +1,7 @@
 // The lines of a listing, each written behind a text in memory that is reserved.
 ghost use Rattle.std.specs.Prelude.{[], ◌∷◌, pos, ◌-ℤ◌, codes, decimal};
 ghost use Rattle.std.specs.Fmt.{signed_decimal};
-ghost use Rattle.listing.specs.Growth.{HasRoom, Wrote};
+ghost use Rattle.listing.specs.Growth.{HasRoom, Wrote, heading_room, area_room, flow_room, bid_room, total_room};
 ghost use Rattle.listing.specs.Lines.{spaced, heading};
 
 use crate::sums::Activated;
@@ -11,8 +11,8 @@ use crate::total::Totals;
 impl Text {
     // The heading.
     pub(super) fn push_heading(&mut self)
-        requires { HasRoom 49 self.old }
-        ensures { Wrote 49 self.old self.new heading }
+        requires { HasRoom heading_room self.old }
+        ensures { Wrote heading_room self.old self.new heading }
     {
         self.push_word(b"area demand satisfied unsatisfied up down export\n");
     }
@@ -25,8 +25,8 @@ impl Text {
         satisfied: i32,
         activated: Activated,
     )
-        requires { HasRoom 160 self.old }
-        ensures { Wrote 160 self.old self.new
+        requires { HasRoom area_room self.old }
+        ensures { Wrote area_room self.old self.new
             (spaced (decimal area ∷ (signed_decimal demand ∷ (signed_decimal satisfied ∷ (signed_decimal (demand -ℤ satisfied)
             ∷ (decimal activated.up ∷ (decimal activated.down ∷ (signed_decimal ((pos activated.up -ℤ pos activated.down) -ℤ satisfied) ∷ [])))))))) }
     {
@@ -42,8 +42,8 @@ impl Text {
 
     // A flow.
     pub(super) fn push_flow(&mut self, border: usize, flow: i32)
-        requires { HasRoom 48 self.old }
-        ensures { Wrote 48 self.old self.new (spaced (codes "flow" ∷ (decimal border ∷ (signed_decimal flow ∷ [])))) }
+        requires { HasRoom flow_room self.old }
+        ensures { Wrote flow_room self.old self.new (spaced (codes "flow" ∷ (decimal border ∷ (signed_decimal flow ∷ [])))) }
     {
         self.push_word(b"flow ");
         self.push_number(border, b' ');
@@ -52,8 +52,8 @@ impl Text {
 
     // An activated amount.
     pub(super) fn push_bid(&mut self, bid: usize, amount: u32)
-        requires { HasRoom 48 self.old }
-        ensures { Wrote 48 self.old self.new (spaced (codes "bid" ∷ (decimal bid ∷ (decimal amount ∷ [])))) }
+        requires { HasRoom bid_room self.old }
+        ensures { Wrote bid_room self.old self.new (spaced (codes "bid" ∷ (decimal bid ∷ (decimal amount ∷ [])))) }
     {
         self.push_word(b"bid ");
         self.push_number(bid, b' ');
@@ -62,8 +62,8 @@ impl Text {
 
     // The totals.
     pub(super) fn push_total(&mut self, totals: Totals)
-        requires { HasRoom 96 self.old }
-        ensures { Wrote 96 self.old self.new
+        requires { HasRoom total_room self.old }
+        ensures { Wrote total_room self.old self.new
             (spaced (codes "total" ∷ (decimal totals.satisfied ∷ (decimal totals.activated ∷ (signed_decimal totals.netted ∷ (signed_decimal totals.cost ∷ [])))))) }
     {
         self.push_word(b"total ");

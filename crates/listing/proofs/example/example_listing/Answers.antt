@@ -1,8 +1,7 @@
 use Rattle.std.proofs.Common.{refl}
 use Rattle.std.specs.Fmt.{digits}
-use Rattle.listing.proofs.Worked.{example_valid, example_within}
 use Rattle.listing.proofs.example.example_listing.Goals as goal
 
-pub returns : goal.returns
+pub returns-clause-text : goal.returns-clause-text
 unfolding digits
-returns c = record { stands = (example_valid, example_within); text = refl }
+returns-clause-text c = refl

@@ -3,9 +3,11 @@ use Rattle.std.proofs.lemmas.Int.{to_z-of_z}
 use Rattle.std.proofs.lemmas.List.{length_push}
 use Rattle.std.specs.Fmt.{signed_decimal}
 use Rattle.listing.specs.Figures.{if_up, if_down, sum_in}
+use Rattle.listing.specs.Growth.{area_room}
 use Rattle.listing.specs.Lines.{spaced, area_line}
 use Rattle.listing.specs.View.{case_in, selection_in}
-use Rattle.listing.proofs.Rows.{row_more, rows_all, pair_turn, pair_end}
+use Rattle.listing.proofs.Pairs.{pair_turn, pair_end}
+use Rattle.listing.proofs.Rows.{row_more, rows_all}
 use Rattle.listing.proofs.Standing.{known}
 use Rattle.listing.proofs.text.Text.push_areas.Goals as goal
 
@@ -41,7 +43,7 @@ loop-area-preserved c =
     let satisfied = to_z-of_z w32 c.in-Some.satisfied.now fits_satisfied ∙ turn.3 (pos 0) in
     let up = c.activated_in.ensures.up ∙ (λ i. sum_in if_up (area i) (c.as_slice-bids.ensures.value i) (c.as_slice-amounts.ensures.value i)) in
     let down = c.activated_in.ensures.down ∙ (λ i. sum_in if_down (area i) (c.as_slice-bids.ensures.value i) (c.as_slice-amounts.ensures.value i)) in
-    row_more 160 (area_line x s) n c.loop-area.invariant _ (length_push c.loop-area.yielded _)
+    row_more area_room (area_line x s) n c.loop-area.invariant _ (length_push c.loop-area.yielded _)
     (λ i. written (area i) (demand i) (satisfied i) (up i) (down i)) c.push_area.ensures
 
 pub returns : goal.returns
@@ -52,4 +54,4 @@ returns c =
     c.loop-area.area-iterator c.next.new.self c.next.result c.loop-area.yielded c.loop-area.yielded_by c.next.ensures.steps c.in-None.is in
     let few = k.few_areas in
     let count = k.satisfied_count in
-    rows_all 160 (area_line (case_in c.args.standing.now) (selection_in c.args.standing.now)) (length c.loop-area.yielded) c.loop-area.invariant _ 7680 (omega arith) (omega arith)
+    rows_all area_room (area_line (case_in c.args.standing.now) (selection_in c.args.standing.now)) (length c.loop-area.yielded) c.loop-area.invariant _ _ (omega arith) (omega arith)
