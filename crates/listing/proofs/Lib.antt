@@ -8,4 +8,3 @@ pub mod Signs
 pub mod Standing
 pub mod Steps
 pub mod Whole
-pub mod Worked

@@ -68,12 +68,13 @@ fn renders_the_example(rt: HostRuntime) -> Result<(), Fail> {
     let book = example_book(rt.alloc())?;
     let amounts = example_amounts(rt.alloc())?;
     let mut text = Text::reserve(rt.alloc())?;
+    let listing = example_listing();
     let standing = Settled {
         book: &book,
         amounts: &amounts,
     };
     text.render(&standing);
-    assert!(rt; text.as_slice() == example_listing());
+    assert!(rt; text.as_slice() == listing);
     assert_eq!(rt; totals(&standing), TOTALS);
     Ok(())
 }
