@@ -24,9 +24,8 @@ use Rattle.fitting.proofs.Best.{judged_unbeaten}
 use Rattle.fitting.proofs.Passed.{passed_from_judged, within_from_passed}
 use Rattle.cycle.specs.Calls.{proposed, price_in, submit_answer}
 
--- what a taken submit gives
+-- what a taken submit gives: the selection in the proposal is the one in the bytes, and it is within the limits
 pub record Taken (m : Meaning) (c : Case) (bs : List ℕ) (p : Proposal) : Type 0 where
-  pub answer : Ok tt ≡ submit_answer m c bs
   pub same : selection_held p ≡ proposed c bs
   pub counts : OneForEach c (selection_held p)
   pub within : WithinLimits c (selection_held p)
@@ -42,13 +41,7 @@ module _ (m : Meaning) (c : Case) (bs : List ℕ) where
         activated_count = ap length (records_part little_endian 4 (length c.bids) (activated_offset (counts_of c)) bs (omega arith) (omega arith)) ∙ length_table little_endian 4 (length c.bids) (drop (activated_offset (counts_of c)) bs);
       }
 
-  -- a submit that is taken leaves a selection within the limits
-  pub submit_within : submit_answer m c bs ≡ Ok tt → WithinLimits c (proposed c bs)
-  submit_within e =
-      let both = both_from_and_then _ _ e in
-      within_from_passed m c (proposed c bs) (price_in m c bs) (counted_bytes both.0) (passed_from_judged m c (proposed c bs) (price_in m c bs) both.1)
-
-  -- and one that nothing beats
+  -- a submit that is taken leaves a selection that nothing beats
   pub submit_unbeaten : Laws m → Valid c → submit_answer m c bs ≡ Ok tt → Unbeaten m c (proposed c bs)
   submit_unbeaten laws valid e =
       let both = both_from_and_then _ _ e in
@@ -87,7 +80,6 @@ module _ (m : Meaning) (c : Case) (bs : List ℕ) (p : Proposal) where
     submit_taken e =
         let counts : OneForEach c (selection_held p) = counted read_here holds_here in
         record {
-          answer = submit_answered (Ok tt) e;
           same = selection_same holds_here;
           counts = counts;
           within = within_from_passed m c (selection_held p) (price_held m p) counts (passed_from_judged m c (selection_held p) (price_held m p) (sym e));

@@ -1,14 +1,14 @@
 -- A replay, call by call. Assumes nothing.
-use Rattle.std.proofs.Common.{◌≡◌, ℕ, zero, suc, ◌+◌, ◌<◌, ◌≤◌, List, [], ◌∷◌, ◌++◌, length, get_or, take, None, Ok, Err, Result, sym, refl, ap, ◌∙◌, subst, add-one, arith, length-append}
+use Rattle.std.proofs.Common.{◌≡◌, ℕ, zero, suc, ◌+◌, ◌<◌, List, [], ◌∷◌, ◌++◌, length, get_or, take, None, Ok, Err, Result, sym, refl, ap, ◌∙◌, subst, add-one, arith, length-append}
 use Rattle.std.proofs.lemmas.List.{take_all}
 use Rattle.scale.specs.Meaning.{Meaning, Laws}
 use Rattle.market.specs.Changes.{revise_answer, revised, limit_answer, limited, withdraw_answer, withdrawn}
 use Rattle.market.specs.declared.refusal.Refusal.{Refusal}
 use Rattle.cycle.specs.declared.calls.Call.{Call}
-use Rattle.cycle.specs.States.{State, fresh}
+use Rattle.cycle.specs.States.{State}
 use Rattle.cycle.specs.Sent.{Sent, Answer, sent, load, revise, limit, withdraw, submit, read, told, told_amount, read_answer}
 use Rattle.cycle.specs.Calls.{after, loaded, changed, submitted, answer_to, next, load_answer, submit_answer}
-use Rattle.history.specs.Histories.{Step, History, in_force, standing, Lawful, Kept}
+use Rattle.history.specs.Histories.{History, in_force, standing, Lawful, Kept}
 use Rattle.history.specs.Replayed.{step, history_of, state_after}
 use Rattle.history.proofs.Kept.{kept_from_lawful}
 

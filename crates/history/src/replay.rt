@@ -23,7 +23,7 @@ pub fn replay_calls<S: Scale>(heap: Global, calls: &[Call]) -> Result<Replay<S>,
 {
     let mut cycle = Cycle::<S>::new(heap)?;
     let mut answers = Vec::with_capacity(heap, calls.len())?;
-    // a loop, since of a cycle that a chain's closure had changed nothing would be known afterwards
+    // A loop: `collect` says nothing of the cycle that its chain has changed.
     for call in calls {
         answers.push_reserved(cycle.make(*call));
     }
