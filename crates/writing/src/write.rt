@@ -1,11 +1,23 @@
 // Writing a case, and a proposal.
-ghost use Rattle.std.specs.Prelude.{◌≡◌, ◌+◌, ◌-◌, ◌*◌, ◌^◌, min, length};
+ghost use Rattle.std.specs.Prelude.{◌≡◌, ◌^◌, ◌<◌, length, nat_le, SomeIff};
+ghost use Rattle.market.specs.declared.refusal.Refusal.TheVariants.{Room};
+ghost use Rattle.market.specs.First.{ask_one};
 ghost use Rattle.layout.specs.CaseReaders.{case_held};
 ghost use Rattle.layout.specs.Sections.{amounts_held};
 ghost use Rattle.layout.specs.Writing.{case_write_answer, case_write_after, proposal_size, proposal_write_answer, proposal_write_after};
 
-use super::written::put_table;
-use market::{Amounts, Book, Refusal};
+use super::written::{Written, put_table};
+use market::{Amounts, Bid, Book, Border, Refusal};
+
+// Does the buffer hold so many bytes?
+fn check_room(size: usize, out: &[u8]) -> Result<(), Refusal>
+    ensures { result ≡ ask_one (nat_le size (length out.now)) (Room size) }
+{
+    if size > out.len() {
+        return Err(Refusal::Room(size));
+    }
+    Ok(())
+}
 
 // Writes the book's case at the start of the buffer, and answers how many bytes that took; the bytes behind keep their values. Where they do not fit, nothing is written.
 pub fn write_case(book: &Book, out: &mut [u8]) -> Result<usize, Refusal>
@@ -15,12 +27,10 @@ pub fn write_case(book: &Book, out: &mut [u8]) -> Result<usize, Refusal>
     let demands = book.demands.as_slice();
     let borders = book.borders.as_slice();
     let bids = book.bids.as_slice();
-    let borders_at = 28 + 4 * demands.len();
-    let bids_at = borders_at + 12 * borders.len();
-    let size = bids_at + 12 * bids.len();
-    if size > out.len() {
-        return Err(Refusal::Room(size));
-    }
+    let borders_at = 28 + i32::SIZE * demands.len();
+    let bids_at = borders_at + Border::SIZE * borders.len();
+    let size = bids_at + Bid::SIZE * bids.len();
+    check_room(size, out)?;
     put_table(
         &[
             1,
@@ -32,27 +42,21 @@ pub fn write_case(book: &Book, out: &mut [u8]) -> Result<usize, Refusal>
             bids_at,
         ],
         out,
-        0,
     );
-    put_table(demands, out, 28);
-    put_table(borders, out, borders_at);
-    put_table(bids, out, bids_at);
+    put_table(demands, &mut out[28..]);
+    put_table(borders, &mut out[borders_at..]);
+    put_table(bids, &mut out[bids_at..]);
     Ok(size)
 }
 
-// How many bytes a proposal takes, where the largest number stands for more.
-fn proposal_size(amounts: &Amounts, prices: &[i64]) -> usize
-    ensures { result ≡ min (proposal_size (amounts_held amounts.now) prices.now) (2 ^ 64 - 1) }
+// How many bytes a proposal takes, where that is a number of the machine.
+fn proposal_size(amounts: &Amounts, prices: &[i64]) -> Option<usize>
+    ensures { SomeIff result (proposal_size (amounts_held amounts.now) prices.now < 2 ^ 64) (proposal_size (amounts_held amounts.now) prices.now) }
 {
-    let amounts = amounts.satisfied.as_slice().len() as u128
-        + amounts.flows.as_slice().len() as u128
-        + amounts.activated.as_slice().len() as u128;
-    let size = 36 + 4 * amounts + 8 * prices.len() as u128;
-    if size < 1 << 64 {
-        size as usize
-    } else {
-        usize::MAX
-    }
+    let amounts = amounts.satisfied.len() as u128
+        + amounts.flows.len() as u128
+        + amounts.activated.len() as u128;
+    usize::try_from(36 + 4 * amounts + 8 * prices.len() as u128).ok()
 }
 
 // Writes a proposal of the amounts and of the prices' levels, one area's after the other's, at the start of the buffer, and answers how many bytes that took;
@@ -66,16 +70,14 @@ pub fn write_proposal(
     ensures answer { result ≡ proposal_write_answer (amounts_held amounts.now) prices.now out.old }
     ensures after { out.new ≡ proposal_write_after levels (amounts_held amounts.now) prices.now out.old }
 {
-    let size = proposal_size(amounts, prices);
-    if size > out.len() || size == usize::MAX {
-        return Err(Refusal::Room(size));
-    }
+    let size = proposal_size(amounts, prices).ok_or(Refusal::Room(usize::MAX))?;
+    check_room(size, out)?;
     let satisfied = amounts.satisfied.as_slice();
     let flows = amounts.flows.as_slice();
     let activated = amounts.activated.as_slice();
-    let flows_at = 36 + 4 * satisfied.len();
-    let activated_at = flows_at + 4 * flows.len();
-    let prices_at = activated_at + 4 * activated.len();
+    let flows_at = 36 + i32::SIZE * satisfied.len();
+    let activated_at = flows_at + i32::SIZE * flows.len();
+    let prices_at = activated_at + u32::SIZE * activated.len();
     put_table(
         &[
             2,
@@ -89,11 +91,10 @@ pub fn write_proposal(
             prices_at,
         ],
         out,
-        0,
     );
-    put_table(satisfied, out, 36);
-    put_table(flows, out, flows_at);
-    put_table(activated, out, activated_at);
-    put_table(prices, out, prices_at);
+    put_table(satisfied, &mut out[36..]);
+    put_table(flows, &mut out[flows_at..]);
+    put_table(activated, &mut out[activated_at..]);
+    put_table(prices, &mut out[prices_at..]);
     Ok(size)
 }

@@ -1,161 +1,140 @@
 // Records put into a buffer, one after the other.
-ghost use Rattle.std.specs.Prelude.{refl, ◌≡◌, ℕ, ◌+◌, ◌*◌, ◌≤◌, List, length};
-ghost use Rattle.records.specs.Bytes.{bytes_of, placed};
-ghost use Rattle.records.specs.Records.{direction_number};
+ghost use Rattle.std.specs.Prelude.{refl, ◌≡◌, ℕ, ◌*◌, ◌≤◌, List, ◌++◌, length, drop};
+ghost use Rattle.records.specs.Bytes.{bytes_of};
 ghost use Rattle.layout.specs.CaseBytes.{demand_bytes, border_bytes, bid_bytes, each};
 ghost use Rattle.layout.specs.ProposalBytes.{level_bytes};
 
-use market::{Bid, Border, Direction};
+use market::{Bid, Border};
 
+// `Record` of the crate `records` reads. This trait stays apart: header words are written from a `usize`, and prices from an `i64`, which it does not read.
 pub trait Written {
     // how many bytes write one, and which
-    ghost size: { ℕ };
+    ghost SIZE: { ℕ };
 
     ghost writes: { Self → List ℕ };
 
-    fn size() -> usize
-        ensures { result ≡ size };
+    const SIZE: usize;
 
-    // Puts it into the buffer at a place, and leaves the rest as it is.
-    fn put(&self, out: &mut [u8], at: usize)
-        requires { at + size ≤ length out.old }
-        ensures { out.new ≡ placed at (writes self.now) out.old };
+    // Puts it at the start of the buffer, and leaves the rest as it is.
+    fn put(&self, out: &mut [u8])
+        requires { SIZE ≤ length out.old }
+        ensures { out.new ≡ writes self.now ++ drop SIZE out.old };
 
-    ghost long: { (x : Self) → length (writes x) ≡ size };
+    ghost long: { (x : Self) → length (writes x) ≡ SIZE };
 }
 
-// Puts bytes into the buffer at a place.
-fn put_bytes(bytes: &[u8], out: &mut [u8], at: usize)
-    requires { at + length bytes.now ≤ length out.old }
-    ensures { out.new ≡ placed at bytes.now out.old }
+// Puts a table at the start of the buffer, and leaves the rest as it is.
+pub fn put_table<T: Written>(table: &[T], out: &mut [u8])
+    requires { T.Written.SIZE * length table.now ≤ length out.old }
+    ensures { out.new ≡ each T.Written.writes table.now ++ drop (T.Written.SIZE * length table.now) out.old }
 {
-    out[at..at + bytes.len()].copy_from_slice(bytes);
-}
-
-// 0 for up, 1 for down.
-fn direction_number(direction: Direction) -> u16
-    ensures { result ≡ direction_number direction }
-{
-    match direction {
-        Direction::Up => 0,
-        Direction::Down => 1,
+    for (place, record) in table.iter().enumerate() {
+        record.put(&mut out[T::SIZE * place..]);
     }
 }
 
-// Puts a table into the buffer, its first record at a place.
-pub fn put_table<T: Written>(table: &[T], out: &mut [u8], at: usize)
-    requires { at + T.Written.size * length table.now ≤ length out.old }
-    ensures { out.new ≡ placed at (each T.Written.writes table.now) out.old }
-{
-    let mut place = at;
-    for record in table {
-        record.put(out, place);
-        place += T::size();
+// The numbers stay five impls: std has no trait that writes any of them as its bytes.
+impl Written for u16 {
+    ghost SIZE = { 2 };
+
+    ghost writes = { bytes_of 2 };
+
+    ghost long = { λ _. refl };
+
+    const SIZE: usize = 2;
+
+    fn put(&self, out: &mut [u8]) {
+        out[..2].copy_from_slice(&self.to_le_bytes());
     }
 }
 
-// A header word: the lowest four bytes of a number.
-impl Written for usize {
-    ghost size = { 4 };
+impl Written for u32 {
+    ghost SIZE = { 4 };
 
     ghost writes = { bytes_of 4 };
 
     ghost long = { λ _. refl };
 
-    fn size() -> usize {
-        4
-    }
+    const SIZE: usize = 4;
 
-    fn put(&self, out: &mut [u8], at: usize) {
-        let [a, b, c, d, _, _, _, _] = self.to_le_bytes();
-        put_bytes(&[a, b, c, d], out, at);
+    fn put(&self, out: &mut [u8]) {
+        out[..4].copy_from_slice(&self.to_le_bytes());
     }
 }
 
 impl Written for i32 {
-    ghost size = { 4 };
+    ghost SIZE = { 4 };
 
     ghost writes = { demand_bytes };
 
     ghost long = { λ _. refl };
 
-    fn size() -> usize {
-        4
-    }
+    const SIZE: usize = 4;
 
-    fn put(&self, out: &mut [u8], at: usize) {
-        put_bytes(&self.to_le_bytes(), out, at);
-    }
-}
-
-impl Written for u32 {
-    ghost size = { 4 };
-
-    ghost writes = { bytes_of 4 };
-
-    ghost long = { λ _. refl };
-
-    fn size() -> usize {
-        4
-    }
-
-    fn put(&self, out: &mut [u8], at: usize) {
-        put_bytes(&self.to_le_bytes(), out, at);
+    fn put(&self, out: &mut [u8]) {
+        out[..4].copy_from_slice(&self.to_le_bytes());
     }
 }
 
 impl Written for i64 {
-    ghost size = { 8 };
+    ghost SIZE = { 8 };
 
     ghost writes = { level_bytes };
 
     ghost long = { λ _. refl };
 
-    fn size() -> usize {
-        8
-    }
+    const SIZE: usize = 8;
 
-    fn put(&self, out: &mut [u8], at: usize) {
-        put_bytes(&self.to_le_bytes(), out, at);
+    fn put(&self, out: &mut [u8]) {
+        out[..8].copy_from_slice(&self.to_le_bytes());
+    }
+}
+
+// A header word: the lowest four bytes of a number.
+impl Written for usize {
+    ghost SIZE = { 4 };
+
+    ghost writes = { bytes_of 4 };
+
+    ghost long = { λ _. refl };
+
+    const SIZE: usize = 4;
+
+    fn put(&self, out: &mut [u8]) {
+        out[..4].copy_from_slice(&self.to_le_bytes()[..4]);
     }
 }
 
 impl Written for Border {
-    ghost size = { 12 };
+    ghost SIZE = { 12 };
 
     ghost writes = { border_bytes };
 
     ghost long = { λ _. refl };
 
-    fn size() -> usize {
-        12
-    }
+    const SIZE: usize = 12;
 
-    fn put(&self, out: &mut [u8], at: usize) {
-        let [a, b] = self.from.to_le_bytes();
-        let [c, d] = self.to.to_le_bytes();
-        let [e, f, g, h] = self.forward.to_le_bytes();
-        let [i, j, k, l] = self.backward.to_le_bytes();
-        put_bytes(&[a, b, c, d, e, f, g, h, i, j, k, l], out, at);
+    fn put(&self, out: &mut [u8]) {
+        self.from.put(out);
+        self.to.put(&mut out[2..]);
+        self.forward.put(&mut out[4..]);
+        self.backward.put(&mut out[8..]);
     }
 }
 
 impl Written for Bid {
-    ghost size = { 12 };
+    ghost SIZE = { 12 };
 
     ghost writes = { bid_bytes };
 
     ghost long = { λ _. refl };
 
-    fn size() -> usize {
-        12
-    }
+    const SIZE: usize = 12;
 
-    fn put(&self, out: &mut [u8], at: usize) {
-        let [a, b] = self.area.to_le_bytes();
-        let [c, d] = direction_number(self.direction).to_le_bytes();
-        let [e, f, g, h] = self.volume.to_le_bytes();
-        let [i, j, k, l] = self.price.to_le_bytes();
-        put_bytes(&[a, b, c, d, e, f, g, h, i, j, k, l], out, at);
+    fn put(&self, out: &mut [u8]) {
+        self.area.put(out);
+        u16::from(self.direction).put(&mut out[2..]);
+        self.volume.put(&mut out[4..]);
+        self.price.put(&mut out[8..]);
     }
 }

@@ -1,10 +1,7 @@
-use Rattle.std.proofs.Common.{◌≡◌, ◌+◌, ◌*◌, drop}
-use Rattle.records.specs.Bytes.{placed}
+use Rattle.std.proofs.Common.{◌≡◌, ◌*◌, ◌++◌, take, drop}
 use Rattle.layout.specs.CaseBytes.{each}
 use Rattle.writing.proofs.written.put_table.Given as goal
 
--- what is left, put in from here, gives what the whole table gives
-abbrev pub invariant-loop-record : goal.invariant-loop-record
-invariant-loop-record g l =
-    (l.place ≡ l.at + g.T.Written.size * l.record-index)
-    × (placed l.place (each g.T.Written.writes (drop l.record-index l.table)) l.out ≡ placed l.at (each g.T.Written.writes l.table) l.initial.out)
+-- the buffer begins with the records so far, and keeps the rest
+abbrev pub invariant-loop-place : goal.invariant-loop-place
+invariant-loop-place g l = l.out ≡ each g.T.Written.writes (take l.place l.table) ++ drop (g.T.Written.SIZE * l.place) l.initial.out
