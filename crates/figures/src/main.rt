@@ -386,18 +386,14 @@ fn levels<S: Scale>(rt: &HostRuntime, levels: i32) -> io::Result<()> {
     propose::<S>(rt, what.as_str(), &CASE, &proposal)
 }
 
-// Each doubles the levels: 3, 6, 12, and then more than the 16 that a scale may have.
-fn from_three<S: Scale>(rt: &HostRuntime) -> io::Result<()> {
-    from_six::<Pair<S, S>>(rt)
-}
+// A pair of a scale with itself has twice its levels: here 24, where a scale may have 16.
+type Twice<S> = Pair<S, S>;
 
-fn from_six<S: Scale>(rt: &HostRuntime) -> io::Result<()> {
-    from_twelve::<Pair<S, S>>(rt)
-}
+type TooLarge = Twice<Twice<Twice<Activation>>>;
 
-fn from_twelve<S: Scale>(rt: &HostRuntime) -> io::Result<()> {
+fn too_large(rt: &HostRuntime) -> io::Result<()> {
     for count in [3, 16, 17] {
-        levels::<Pair<S, S>>(rt, count)?;
+        levels::<TooLarge>(rt, count)?;
     }
     Ok(())
 }
@@ -405,5 +401,5 @@ fn from_twelve<S: Scale>(rt: &HostRuntime) -> io::Result<()> {
 fn main(rt: HostRuntime) -> io::Result<()> {
     table(&rt)?;
     cycles::<Activation>(&rt)?;
-    from_three::<Activation>(&rt)
+    too_large(&rt)
 }

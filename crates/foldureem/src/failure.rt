@@ -19,7 +19,7 @@ impl From<AllocError> for Failure {
     ghost from_gives = { λ _ failure. failure ≡ OutOfMemory };
 
     fn from(_error: AllocError) -> Self {
-        Failure::OutOfMemory
+        Self::OutOfMemory
     }
 }
 
@@ -27,7 +27,7 @@ impl From<Refusal> for Failure {
     ghost from_gives = { λ refusal failure. failure ≡ Refused refusal };
 
     fn from(refusal: Refusal) -> Self {
-        Failure::Refused(refusal)
+        Self::Refused(refusal)
     }
 }
 

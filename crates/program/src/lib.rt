@@ -1,6 +1,9 @@
 // What the programs `verify` and `replay` share: the words they are given, the texts that any program can say, and telling of trouble.
 #![tactic(auto)]
 
+ghost use Rattle.std.specs.Prelude.{◌≡◌};
+ghost use Rattle.program.specs.Told.{told};
+
 use std::fmt::{Debug, Display};
 use std::{env, io};
 
@@ -45,10 +48,15 @@ fn say(rt: &HostRuntime, text: &str) -> anyhow::Result<()> {
     Ok(())
 }
 
-// Tells of an error that no message has told of yet.
-pub fn report<T, E: Debug + Drop>(rt: &HostRuntime, answer: Result<T, E>) -> Result<T, Told> {
-    answer.map_err(|trouble| {
-        let _ = eprintln!(rt; "Error: {trouble:?}");
-        Told
-    })
+// Tells of an error that no message has told of yet; a value comes through.
+pub fn report<T: Drop, E: Debug + Drop>(rt: &HostRuntime, answer: Result<T, E>) -> Result<T, Told>
+    ensures { result ≡ told answer }
+{
+    match answer {
+        Ok(value) => Ok(value),
+        Err(trouble) => {
+            let _ = eprintln!(rt; "Error: {trouble:?}");
+            Err(Told)
+        }
+    }
 }

@@ -80,6 +80,7 @@ fn read(rt: &HostRuntime, path: &str) -> Result<Vec<u8>, Told> {
     fs::read(rt, path).map_err(|trouble| PROGRAM.tell(rt, format_args!("{path}: {trouble}")))
 }
 
+// Bytes, where `replay` prints text: what is told of a pipe that breaks differs.
 fn release(rt: &HostRuntime, listing: &[u8]) -> anyhow::Result<()> {
     rt.stdout().write_all(listing)?;
     Ok(())
