@@ -20,6 +20,7 @@ pub fn totals(standing: &Settled) -> Totals
     Totals {
         satisfied,
         activated,
+        // No cast loses bits: both sums are far below 2 ^ 63.
         netted: (satisfied as i64 - activated as i64) / 2,
         cost: cost_of(
             standing.book.bids.as_slice(),

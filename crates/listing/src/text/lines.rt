@@ -37,6 +37,7 @@ impl Text {
         self.push_number(i64::from(demand) - i64::from(satisfied), b' ');
         self.push_number(up, b' ');
         self.push_number(down, b' ');
+        // No cast loses bits: both sums are small, by the type.
         self.push_number(up as i64 - down as i64 - i64::from(satisfied), b'\n');
     }
 
