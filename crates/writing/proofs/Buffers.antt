@@ -25,13 +25,14 @@ module _ (ds : List ℤ) (bs : List Border) (os : List Bid) (out o1 p2 p3 p4 : L
   abbrev o3 : List ℕ
   o3 = ended borders_at o2 p3
 
-  pub case_put : case_size (case_of ds bs os) ≤ length out
-      → o1 ≡ each (bytes_of 4) (1 ∷ length ds ∷ 28 ∷ length bs ∷ borders_at ∷ length os ∷ bids_at ∷ []) ++ drop 28 out
+  pub case_put : (kind : ℕ) → kind ≡ 1 → case_size (case_of ds bs os) ≤ length out
+      → o1 ≡ each (bytes_of 4) (kind ∷ length ds ∷ 28 ∷ length bs ∷ borders_at ∷ length os ∷ bids_at ∷ []) ++ drop 28 out
       → Begun 28 o1 (each demand_bytes ds) (4 * length ds) p2
       → Begun borders_at o2 (each border_bytes bs) (12 * length bs) p3
       → Begun bids_at o3 (each bid_bytes os) (12 * length os) p4
       → ended bids_at o3 p4 ≡ case_write_after (case_of ds bs os) out
-  case_put fits e1 e2 e3 e4 =
+  case_put kind is_case fits e0 e2 e3 e4 =
+      let e1 = e0 ∙ ap (λ k. each (bytes_of 4) (k ∷ length ds ∷ 28 ∷ length bs ∷ borders_at ∷ length os ∷ bids_at ∷ []) ++ drop 28 out) is_case in
       let h = case_header (length ds) (length bs) (length os) in
       let d = each demand_bytes ds in
       let b = each border_bytes bs in
@@ -63,14 +64,15 @@ module _ (levels : ℕ) (ss fs : List ℤ) (xs : List ℕ) (prices : List ℤ) (
   abbrev q4 : List ℕ
   q4 = ended activated_at q3 p4
 
-  pub proposal_put : proposal_size (selection_from ss fs xs) prices ≤ length out
-      → o1 ≡ each (bytes_of 4) (2 ∷ length ss ∷ 36 ∷ length fs ∷ flows_at ∷ length xs ∷ activated_at ∷ levels ∷ prices_at ∷ []) ++ drop 36 out
+  pub proposal_put : (kind : ℕ) → kind ≡ 2 → proposal_size (selection_from ss fs xs) prices ≤ length out
+      → o1 ≡ each (bytes_of 4) (kind ∷ length ss ∷ 36 ∷ length fs ∷ flows_at ∷ length xs ∷ activated_at ∷ levels ∷ prices_at ∷ []) ++ drop 36 out
       → Begun 36 o1 (each amount_bytes ss) (4 * length ss) p2
       → Begun flows_at q2 (each amount_bytes fs) (4 * length fs) p3
       → Begun activated_at q3 (each (bytes_of 4) xs) (4 * length xs) p4
       → Begun prices_at q4 (each level_bytes prices) (8 * length prices) p5
       → ended prices_at q4 p5 ≡ proposal_write_after levels (selection_from ss fs xs) prices out
-  proposal_put fits e1 e2 e3 e4 e5 =
+  proposal_put kind is_proposal fits e0 e2 e3 e4 e5 =
+      let e1 = e0 ∙ ap (λ k. each (bytes_of 4) (k ∷ length ss ∷ 36 ∷ length fs ∷ flows_at ∷ length xs ∷ activated_at ∷ levels ∷ prices_at ∷ []) ++ drop 36 out) is_proposal in
       let h = proposal_header (counts_in (selection_from ss fs xs)) levels in
       let s = each amount_bytes ss in
       let f = each amount_bytes fs in

@@ -8,6 +8,7 @@ ghost use Rattle.layout.specs.Writing.{case_write_answer, case_write_after, prop
 
 use super::written::{Written, put_table};
 use market::{Amounts, Bid, Book, Border, Refusal};
+use records::Kind;
 
 // Does the buffer hold so many bytes?
 fn check_room(size: usize, out: &[u8]) -> Result<(), Refusal>
@@ -33,7 +34,7 @@ pub fn write_case(book: &Book, out: &mut [u8]) -> Result<usize, Refusal>
     check_room(size, out)?;
     put_table(
         &[
-            1,
+            u32::from(Kind::Case) as usize,
             demands.len(),
             28,
             borders.len(),
@@ -80,7 +81,7 @@ pub fn write_proposal(
     let prices_at = activated_at + u32::SIZE * activated.len();
     put_table(
         &[
-            2,
+            u32::from(Kind::Proposal) as usize,
             satisfied.len(),
             36,
             flows.len(),

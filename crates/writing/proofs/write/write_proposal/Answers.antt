@@ -14,6 +14,6 @@ returns-clause-after c =
     let same = selection_same ss (vec_items c.args.amounts.now.satisfied) fs (vec_items c.args.amounts.now.flows) xs (vec_items c.args.amounts.now.activated)
     c.as_slice-satisfied.ensures.value c.as_slice-flows.ensures.value c.as_slice-activated.ensures.value in
     let fits : proposal_size (selection_from ss fs xs) prices ≤ length out = search rules in
-    proposal_put c.args.levels ss fs xs prices out c.put_table.new.out c.put_table-2.new.out c.put_table-3.new.out c.put_table-4.new.out c.put_table-5.new.out fits
+    proposal_put c.args.levels ss fs xs prices out c.put_table.new.out c.put_table-2.new.out c.put_table-3.new.out c.put_table-4.new.out c.put_table-5.new.out c.from.result c.from.ensures fits
     c.put_table.ensures c.put_table-2.ensures c.put_table-3.ensures c.put_table-4.ensures c.put_table-5.ensures
     ∙ ap (λ x. proposal_write_after c.args.levels x prices out) same
