@@ -1,22 +1,10 @@
 -- Tables of records: how one grows, and what stands at a place. Assumes nothing.
-use Rattle.std.proofs.Common.{◌≡◌, ℕ, zero, suc, ◌+◌, ◌-◌, ◌*◌, ◌/◌, ◌%◌, ◌<◌, ◌≤◌, cond, List, [], ◌∷◌, ◌++◌, length, get_or, take, drop, ℤ, Some, None, Option, unwrap_or, sym, refl, ap, ◌∙◌, add_comm, append_assoc, mul-le-mul_left, mul-zero, mul-suc, add-one, arith, length-append, length-drop, w32, SFits, to_z, of_z, le-ltb, lt-ltb}
-use native.Mathlib.Nat.{div-add-mod, div-eq-sub-div, div-eq_of_lt, mul-div_cancel_left}
+use Rattle.std.proofs.Common.{◌≡◌, ℕ, zero, suc, ◌+◌, ◌-◌, ◌*◌, ◌/◌, ◌<◌, ◌≤◌, cond, List, [], ◌∷◌, ◌++◌, length, get_or, take, drop, ℤ, Some, None, Option, unwrap_or, sym, refl, ap, ◌∙◌, add_comm, append_assoc, mul-zero, mul-suc, add-one, arith, length-append, length-drop, w32, SFits, to_z, of_z, le-ltb, lt-ltb}
+use native.Mathlib.Nat.{div-eq-sub-div, div-eq_of_lt, mul-div_cancel_left}
 use native.Mathlib.Decide.{dec_lt}
 use Rattle.std.proofs.lemmas.List.{drop-drop, drop-take, take-take, length-take-le}
 use Rattle.std.proofs.lemmas.Int.{to_z-of_z}
 use Rattle.records.specs.Bytes.{part, table, records, record_at}
-
--- a record at a place of n / s lies within n bytes
-pub within : (n s k : ℕ) → k < n / s → s * k + s ≤ n
-within n s k h =
-    let m : s * suc k ≤ s * (n / s) = mul-le-mul_left s h in
-    let e : s * (n / s) + n % s ≡ n = div-add-mod n s in
-    let f : s * suc k ≡ s * k + s = mul-suc s k in
-    omega arith
-
--- and n bytes that end within a record hold no record there
-pub beyond : (n s k : ℕ) → n < s * k + s → n / s ≤ k
-beyond n s k short = elim (dec_lt k (n / s)) [ yes h ↦ absurd (omega (arith, within n s k h)) | no h ↦ omega arith ]
 
 module _ {X : Type 0} (f : List ℕ → X) (s : ℕ) where
   pub part_later : (k : ℕ) (bs : List ℕ) → part (s * k) s (drop s bs) ≡ part (s * suc k) s bs
@@ -62,7 +50,7 @@ module _ {X : Type 0} (f : List ℕ → X) (s : ℕ) where
   record_at_within : (bs : List ℕ) (k : ℕ) → k < length bs / s → record_at f s bs k ≡ Some (f (part (s * k) s bs))
   record_at_within bs k h = ap (λ t. cond t (Some (f (part (s * k) s bs))) None) (lt-ltb k (length bs / s) h)
 
-  pub record_at_past : (bs : List ℕ) (k : ℕ) → length bs / s ≤ k → record_at f s bs k ≡ None
+  record_at_past : (bs : List ℕ) (k : ℕ) → length bs / s ≤ k → record_at f s bs k ≡ None
   record_at_past bs k h = ap (λ t. cond t (Some (f (part (s * k) s bs))) None) (le-ltb k (length bs / s) h)
 
   pub valueOr_record_at : (bs : List ℕ) (k : ℕ) (d : X) → unwrap_or (record_at f s bs k) d ≡ get_or (records f s bs) k d

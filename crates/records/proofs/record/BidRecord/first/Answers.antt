@@ -6,7 +6,6 @@ use Rattle.market.specs.declared.trade.Direction.TheVariants.{Down}
 use Rattle.records.specs.Bytes.{part, signed_word}
 use Rattle.records.specs.Records.{direction_of}
 use Rattle.records.proofs.Numbers.{numbered_or_down}
-use Rattle.records.proofs.Words.{last}
 use Rattle.records.proofs.record.BidRecord.first.Goals as goal
 
 pub returns : goal.returns
@@ -17,8 +16,8 @@ returns c =
     let direction : c.unwrap_or.result ≡ direction_of (little_endian (part 2 2 bs)) =
     c.unwrap_or.ensures ∙ (ap (λ r. result_unwrap_or r Down) c.try_from.ensures ∙ (numbered_or_down c.in_ok-direction.direction ∙ ap direction_of number)) in
     let volume : c.in_ok-volume.volume ≡ little_endian (part 4 4 bs) = search rules in
-    let behind : c.in_ok-volume.rest.now ≡ drop 8 c.args.bytes.now = search rules in
+    let behind : c.in_ok-volume.rest.now ≡ drop 8 bs = search rules in
     let fits : SFits w32 c.in_ok-price.price = search rules in
     let price : to_z w32 (of_z w32 c.in_ok-price.price) ≡ signed_word (part 8 4 bs) =
-    to_z-of_z w32 c.in_ok-price.price fits ∙ (c.in_ok-price.ensures.0 ∙ ap signed_word (last 8 4 c.args.bytes.now c.in_ok-volume.rest.now behind)) in
+    to_z-of_z w32 c.in_ok-price.price fits ∙ (c.in_ok-price.ensures.0 ∙ ap (λ l. signed_word (take 4 l)) behind) in
     (cc, search rules, search rules)
