@@ -7,7 +7,7 @@ ghost use Rattle.fitting.specs.Candidates.{case, selection};
 use crate::candidate::Candidate;
 use market::Direction;
 
-// No case has more areas.
+// No case has more areas. The sums stand in an array, since nothing is allocated once a cycle is made.
 pub const AREAS: usize = 48;
 
 impl Candidate<'_, '_, '_> {
@@ -24,6 +24,7 @@ impl Candidate<'_, '_, '_> {
         ensures small { (a : ℕ) → a < 48 → (neg_ℤ (pos 4398046511104) ≤ℤ slice_index_or result a (pos 0)) × (slice_index_or result a (pos 0) ≤ℤ pos 4398046511104) }
     {
         let mut sums = [0; AREAS];
+        // Here and below amounts are read from the proposal's bytes by place: there is no list to walk beside the book's.
         for (place, bid) in self.book.bids.iter().enumerate() {
             add(
                 &mut sums,

@@ -9,7 +9,7 @@ use crate::many::count;
 use crate::told::FoldureemVerdict;
 use std::alloc::Global;
 
-// C has no enum with a value in it, so an answer is told by numbers.
+// C has no enum with a value in it, so an answer is told by numbers. No `From` leads from `usize` to `u64`, and nothing is cut off.
 impl From<Result<usize, Failure>> for FoldureemVerdict {
     ghost from_gives = { λ answer verdict. verdict ≡ told_if answer };
 

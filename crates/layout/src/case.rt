@@ -36,6 +36,7 @@ fn tables<'a>(bytes: &'a [u8], header: CaseHeader) -> CaseReader<'a>
     ensures { Parts header bytes.now result }
 {
     let (_, rest) = bytes.split_at(28);
+    // `usize` has no `From<u32>`, and nothing is cut off.
     let (demands, rest) = rest.split_at(4 * header.areas as usize);
     let (borders, bids) = rest.split_at(12 * header.borders as usize);
     CaseReader {

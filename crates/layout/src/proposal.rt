@@ -51,6 +51,7 @@ fn ask_counts(counts: Counts, levels: usize, header: ProposalHeader) -> Result<(
 {
     ask(
         9,
+        // Each word has a test of its own, so a match says which. `usize` has no `From<u32>`, and nothing is cut off.
         |word| match word {
             1 => header.areas as usize == counts.areas,
             3 => header.borders as usize == counts.borders,
@@ -110,7 +111,7 @@ fn check_proposal(bytes: &[u8], counts: Counts, levels: usize) -> Result<(), Ref
     ask_sections(section_starts(counts, levels), header, bytes.len())
 }
 
-// The proposal in the bytes, for a case with these counts and a scale with these levels; or the first question that gets a no.
+// The proposal in the bytes, for a case with these counts and a scale with these levels, which come from two places and meet only here; or the first question that gets a no.
 pub fn read_proposal<'a>(
     bytes: &'a [u8],
     counts: Counts,
@@ -183,6 +184,7 @@ impl<'a> Proposal<'a> {
 }
 
 // Makes the amounts those of the proposal and answers true, where it has no more than a case can have; else changes nothing and answers false.
+// A flag and no error: a proposal for a case that a book holds never has more.
 pub fn keep(amounts: &mut Amounts, proposal: &Proposal) -> bool
     ensures answer { result ≡ few proposal.now }
     ensures after { amounts_held amounts.new ≡ (if result then selection_held proposal.now else amounts_held amounts.old) }

@@ -16,6 +16,7 @@ pub fn ask_counts(header: CaseHeader, bids: bool) -> Result<(), Refusal>
 {
     ask(
         7,
+        // Each word has a test of its own, so a match says which.
         |word| match word {
             1 => header.areas <= 48,
             3 => header.borders <= 128,
@@ -32,6 +33,7 @@ pub fn ask_offsets(header: CaseHeader, length: usize) -> Result<(), Refusal>
 {
     ask(
         8,
+        // `usize` has no `From<u32>`, and nothing is cut off.
         |word| match word {
             2 => header.areas_at == 28,
             4 => header.borders_at as usize == header.borders_start(),

@@ -16,6 +16,7 @@ pub struct Book {
 }
 
 // The amounts of a selection: satisfied for each area, flow for each border, activated for each bid.
+// It and a book are no one generic struct: a table is called by what it holds. Nor do they stand in one table: a selection is the solver's, and changes where its case stays.
 #[derive(Drop)]
 pub struct Amounts {
     pub satisfied: Vec<i32>,

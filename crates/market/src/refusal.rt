@@ -50,7 +50,7 @@ pub enum Refusal {
 }
 
 impl Refusal {
-    // The number of the question that got a no.
+    // The number of the question that got a no. Here and below a number is no enum: it is printed, and told to C.
     pub fn number(self) -> u8
         ensures { result ≡ number self }
     {

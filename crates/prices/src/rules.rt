@@ -18,6 +18,7 @@ pub fn settled(below: bool, above: bool, order: Ordering) -> bool
     }
 }
 
+// Here and below an item and its amount are two parameters: the case has the one, and the selection the other.
 // Positive demand: t + p against 0. Negative demand, by size: t against p. Demand 0 requires nothing.
 pub fn is_demand_fitting<S: Scale>(demand: i32, satisfied: i32, price: S::Price) -> bool
     ensures { result ≡ demand_fits S.Scale.meaning demand satisfied (S.Scale.worth price) }

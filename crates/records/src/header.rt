@@ -16,7 +16,7 @@ pub struct CaseHeader {
     pub bids_at: u32,
 }
 
-// The words of a proposal's header, in their order.
+// The words of a proposal's header, in their order. Two structs and two readers, since the words differ in what they are.
 #[derive(Clone, Copy)]
 pub struct ProposalHeader {
     pub kind: u32,
@@ -30,7 +30,7 @@ pub struct ProposalHeader {
     pub prices: u32,
 }
 
-// Where the tables of a case begin and end, by its header.
+// Where the tables of a case begin and end, by its header. `usize` has no `From<u32>`, and nothing is cut off.
 impl CaseHeader {
     pub fn borders_start(self) -> usize
         ensures { result ≡ borders_start self }

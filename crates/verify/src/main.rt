@@ -25,7 +25,7 @@ standard error, nothing on standard output, and status 1.
     version: "verify 0.1.0",
 };
 
-// No listing is longer.
+// No listing is longer. The room is lent, since the same call serves C.
 const LISTING: usize = 65536;
 
 fn main(rt: HostRuntime) -> ExitCode {

@@ -54,6 +54,7 @@ pub fn write_case(book: &Book, out: &mut [u8]) -> Result<usize, Refusal>
 fn proposal_size(amounts: &Amounts, prices: &[i64]) -> Option<usize>
     ensures { SomeIff result (proposal_size (amounts_held amounts.now) prices.now < 2 ^ 64) (proposal_size (amounts_held amounts.now) prices.now) }
 {
+    // No `From` leads from `usize` to `u128`, and nothing is cut off.
     let amounts = amounts.satisfied.len() as u128
         + amounts.flows.len() as u128
         + amounts.activated.len() as u128;
