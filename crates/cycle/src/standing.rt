@@ -1,5 +1,5 @@
 // Reading what stands: an amount, or the totals.
-ghost use Rattle.std.specs.Prelude.{◌≡◌, true, IfSome};
+ghost use Rattle.std.specs.Prelude.{◌≡◌, true, IfSome, if◌then◌else◌, Some, None};
 ghost use Rattle.std.specs.Option.{option_map};
 ghost use Rattle.market.specs.Held.{held};
 ghost use Rattle.listing.specs.View.{case_in, selection_in};
@@ -32,9 +32,9 @@ impl Holdings {
     pub fn read(&self, item: Item) -> Result<i64, Refusal>
         ensures { result ≡ read_answer (state_of self.now).case (state_of self.now).standing item }
     {
-        if !is_known(&self.book, item) {
+        let Some(item) = look_up(&self.book, item) else {
             return Err(Refusal::Unknown(item.number()));
-        }
+        };
         let standing = self.standing().ok_or(Refusal::NothingStands)?;
         Ok(amount(&standing, item))
     }
@@ -47,15 +47,16 @@ impl Holdings {
     }
 }
 
-// Does the case have the area, border or bid?
-fn is_known(book: &Book, item: Item) -> bool
-    ensures { result ≡ known (held book.now) item }
+// The area, border or bid, where the case has it.
+fn look_up(book: &Book, item: Item) -> Option<Item>
+    ensures { result ≡ (if known (held book.now) item then Some item else None) }
 {
-    match item {
+    let known = match item {
         Item::Area(area) => area < book.demands.len(),
         Item::Border(border) => border < book.borders.len(),
         Item::Bid(bid) => bid < book.bids.len(),
-    }
+    };
+    known.then_some(item)
 }
 
 // The amount of an area, border or bid of the case.
