@@ -18,6 +18,7 @@ impl Holdings {
         ensures selection { option_map selection_in result ≡ (state_of self.now).standing }
         ensures case { IfSome result (λ s. case_in s ≡ (state_of self.now).case) }
     {
+        // No `then`: its closure does not know that something stands.
         if self.stands {
             Some(Settled {
                 book: &self.book,
@@ -47,7 +48,7 @@ impl Holdings {
     }
 }
 
-// The area, border or bid, where the case has it.
+// The area, border or bid, where the case has it. By the book's lengths: where nothing stands, the amounts are not those of this case.
 fn look_up(book: &Book, item: Item) -> Option<Item>
     ensures { result ≡ (if known (held book.now) item then Some item else None) }
 {
@@ -59,7 +60,7 @@ fn look_up(book: &Book, item: Item) -> Option<Item>
     known.then_some(item)
 }
 
-// The amount of an area, border or bid of the case.
+// The amount of an area, border or bid of the case, which the selection that stands has: so by its place, and not by `get`.
 fn amount(standing: &Settled, item: Item) -> i64
     requires { known (case_in standing.now) item ≡ true }
     ensures { result ≡ amount_of (selection_in standing.now) item }

@@ -4,7 +4,8 @@ ghost use Rattle.market.specs.Selections.{satisfied_allowed, flow_allowed, activ
 
 use market::{Bid, Border};
 
-// From 0 to the demand, with the demand's sign.
+// From 0 to the demand, with the demand's sign. By two comparisons, here and below: of a range whose ends are computed
+// the check does not see the ends as whole numbers.
 pub fn is_satisfied_allowed(demand: i32, satisfied: i32) -> bool
     ensures { result ≡ satisfied_allowed demand satisfied }
 {

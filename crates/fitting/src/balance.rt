@@ -5,11 +5,9 @@ ghost use Rattle.market.specs.Selections.{injected, activated_in, flows_into, ne
 ghost use Rattle.fitting.specs.Candidates.{case, selection};
 
 use crate::candidate::Candidate;
-use market::Direction;
+use market::{AREAS, Direction};
 
-// No case has more areas. The sums stand in an array, since nothing is allocated once a cycle is made.
-pub const AREAS: usize = 48;
-
+// The sums stand in an array, since nothing is allocated once a cycle is made.
 impl Candidate<'_, '_, '_> {
     // Up minus down plus flows in minus flows out of each area; 0 past the last.
     pub fn balance_sheet(self) -> [i64; AREAS]

@@ -35,12 +35,9 @@ impl Candidate<'_, '_, '_> {
     fn does_demand_fit<S: Scale>(self, area: usize) -> bool
         ensures { result ≡ demand_priced S.Scale.meaning (demand_at (case self.entry) area) (satisfied_at (selection self.entry) area) (price S.Scale.meaning self.entry area) }
     {
-        match self.price::<S>(area) {
-            Some(price) => {
-                is_demand_fitting::<S>(self.book.demand(area), self.proposal.satisfied(area), price)
-            }
-            None => false,
-        }
+        self.price::<S>(area).is_some_and(|price| {
+            is_demand_fitting::<S>(self.book.demand(area), self.proposal.satisfied(area), price)
+        })
     }
 
     // Does a border fit?
@@ -50,12 +47,9 @@ impl Candidate<'_, '_, '_> {
         let border = self.book.border(place);
         let from = self.price::<S>(usize::from(border.from));
         let to = self.price::<S>(usize::from(border.to));
-        match (from, to) {
-            (Some(from), Some(to)) => {
-                is_border_fitting::<S>(border, self.proposal.flow(place), from, to)
-            }
-            _ => false,
-        }
+        from.zip(to).is_some_and(|(from, to)| {
+            is_border_fitting::<S>(border, self.proposal.flow(place), from, to)
+        })
     }
 
     // Does a bid fit?
@@ -63,10 +57,11 @@ impl Candidate<'_, '_, '_> {
         ensures { result ≡ bid_priced S.Scale.meaning (bid_at (case self.entry) place) (activated_at (selection self.entry) place) (price S.Scale.meaning self.entry (bid_at (case self.entry) place).area) }
     {
         let bid = self.book.bid(place);
-        match self.price::<S>(usize::from(bid.area)) {
-            Some(price) => is_bid_fitting::<S>(bid, self.proposal.activated(place), price),
-            None => false,
-        }
+        self.price::<S>(usize::from(bid.area)).is_some_and(|price| is_bid_fitting::<S>(
+            bid,
+            self.proposal.activated(place),
+            price,
+        ))
     }
 
     // Do all demands fit?

@@ -51,7 +51,8 @@ pub fn foldureem_verify(
     *verdict = judged(heap, case, proposal, out).into();
 }
 
-// How many of many pairs of a case and a proposal are taken, on cycles that are made once; the largest number where there was no memory.
+// How many of many pairs of a case and a proposal are taken, on cycles that are made once; the largest number where there was no memory, since C has no `Result`.
+// C lends all files in one buffer, and where each ends in another.
 pub fn foldureem_count(heap: Global, files: &[u8], ends: &[usize]) -> usize
     ensures tallied { Tallied files.now ends.now result }
 {

@@ -1,4 +1,4 @@
-// The two functions that C calls. Nothing checks a C declaration against them: foldureem.h is written by hand.
+// The two functions that C calls, each over the one of `foldureem` with the same clauses: a crate is either a library, as `verify` needs one, or a static library. Nothing checks a C declaration against them: foldureem.h is written by hand.
 #![tactic(auto)]
 
 ghost use Rattle.std.specs.Prelude.{◌≡◌};

@@ -6,7 +6,7 @@ ghost use Rattle.layout.specs.ProposalBytes.{proposal_end, proposal_answer, coun
 ghost use Rattle.layout.specs.Sections.{section_bytes, satisfied_bytes, flows_bytes, activated_bytes, prices_bytes, levels_of, selection_held, Holds, InPlace, forget, few, amounts_held};
 
 use super::table::fill;
-use market::{Amounts, Refusal, ask};
+use market::{AREAS, Amounts, BIDS, BORDERS, Refusal, ask};
 use records::{Kind, ProposalHeader, Record, proposal_header, record_at};
 
 // How many areas, borders and bids a case has.
@@ -17,7 +17,7 @@ pub struct Counts {
     pub bids: usize,
 }
 
-// A section of a proposal: its part of the bytes, borrowed.
+// A section of a proposal: its part of the bytes, borrowed. An enum, so that no section is taken for another.
 #[derive(Clone, Copy)]
 pub enum Section<'a> {
     Satisfied(&'a [u8]),
@@ -51,7 +51,7 @@ fn ask_counts(counts: Counts, levels: usize, header: ProposalHeader) -> Result<(
 {
     ask(
         9,
-        // Each word has a test of its own, so a match says which. `usize` has no `From<u32>`, and nothing is cut off.
+        // Here and below each word has a test of its own, so a match says which. `usize` has no `From<u32>`, and nothing is cut off.
         |word| match word {
             1 => header.areas as usize == counts.areas,
             3 => header.borders as usize == counts.borders,
@@ -176,6 +176,7 @@ impl<'a> Proposal<'a> {
         ensures { result.now ≡ price_part (levels_of self.now) (prices_bytes self.now) area }
     {
         let prices = self.prices.bytes();
+        // By start and end, since a width may be 0, which `chunks` refuses, and past the last area the part is empty.
         let width = self.levels.saturating_mul(8);
         let start = width.saturating_mul(area).min(prices.len());
         let end = start + width.min(prices.len() - start);
@@ -192,9 +193,9 @@ pub fn keep(amounts: &mut Amounts, proposal: &Proposal) -> bool
     let satisfied = proposal.satisfied.bytes();
     let flows = proposal.flows.bytes();
     let activated = proposal.activated.bytes();
-    if satisfied.len() / i32::SIZE > 48
-        || flows.len() / i32::SIZE > 128
-        || activated.len() / u32::SIZE > 1024
+    if satisfied.len() / i32::SIZE > AREAS
+        || flows.len() / i32::SIZE > BORDERS
+        || activated.len() / u32::SIZE > BIDS
     {
         return false;
     }

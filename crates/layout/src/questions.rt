@@ -7,20 +7,20 @@ ghost use Rattle.layout.specs.CaseBytes.{count_allowed, offset_right};
 ghost use Rattle.layout.specs.CaseReaders.{case_read, direction_fine};
 
 use super::reader::CaseReader;
-use market::{Refusal, ask, is_demand_in_range, is_limit_in_range};
+use market::{AREAS, BIDS, BORDERS, Refusal, ask, is_demand_in_range, is_limit_in_range};
 use records::CaseHeader;
 
-// Is each count within its bound, with no bids where they take no part?
+// Is each count within its bound, with no bids where they take no part? Whether they do is the scale's to say, and no part of the bytes.
 pub fn ask_counts(header: CaseHeader, bids: bool) -> Result<(), Refusal>
     ensures { result ≡ asked (count_allowed bids header) 7 Count }
 {
     ask(
         7,
-        // Each word has a test of its own, so a match says which.
+        // Here and below each word has a test of its own, so a match says which; and `usize` has no `From<u32>`, but nothing is cut off.
         |word| match word {
-            1 => header.areas <= 48,
-            3 => header.borders <= 128,
-            5 => header.bids <= 1024 && (bids || header.bids == 0),
+            1 => header.areas as usize <= AREAS,
+            3 => header.borders as usize <= BORDERS,
+            5 => header.bids as usize <= BIDS && (bids || header.bids == 0),
             _ => true,
         },
         Refusal::Count,
@@ -33,7 +33,6 @@ pub fn ask_offsets(header: CaseHeader, length: usize) -> Result<(), Refusal>
 {
     ask(
         8,
-        // `usize` has no `From<u32>`, and nothing is cut off.
         |word| match word {
             2 => header.areas_at == 28,
             4 => header.borders_at as usize == header.borders_start(),

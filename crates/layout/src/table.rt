@@ -12,6 +12,7 @@ pub fn fill<R: Record + Drop>(table: &mut Vec<R>, bytes: &[u8])
 {
     table.clear();
     let mut rest = bytes;
+    // Record by record: of `chunks_exact` each chunk would still be to read, and might not be a record.
     while let Some((record, behind)) = R::first(rest) {
         table.push_reserved(record);
         rest = behind;

@@ -9,5 +9,5 @@ mod total;
 
 pub use example::example_listing;
 pub use tally::totals;
-pub use text::Text;
+pub use text::{ROOM, Text};
 pub use total::Totals;

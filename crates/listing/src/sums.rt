@@ -22,6 +22,7 @@ pub fn activated_in(bids: &[Bid], amounts: &[u32], area: usize) -> Activated
 {
     let mut up = 0;
     let mut down = 0;
+    // Two sums in one pass, so no chain.
     for (bid, amount) in bids.iter().zip(amounts) {
         if usize::from(bid.area) == area {
             match bid.direction {
@@ -75,6 +76,7 @@ pub fn cost_of(bids: &[Bid], amounts: &[u32]) -> i64
     ensures { result ≡ payments bids.now amounts.now }
 {
     let mut cost = 0;
+    // No chain: the library's `sum` of signed numbers has no bound to add by.
     for (bid, amount) in bids.iter().zip(amounts) {
         cost += payment(*bid, *amount);
     }

@@ -8,7 +8,7 @@ mod tables;
 mod writing;
 
 // No listing is longer.
-const ROOM: usize = 65_536;
+pub const ROOM: usize = 65_536;
 
 // Room for the text of every listing, reserved when it is made.
 #[derive(Drop)]

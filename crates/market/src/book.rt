@@ -5,6 +5,13 @@ ghost use Rattle.market.specs.Cases.{Valid, case_of};
 use crate::trade::{Bid, Border};
 use std::alloc::{AllocError, Global};
 
+// No case has more areas, borders or bids.
+pub const AREAS: usize = 48;
+
+pub const BORDERS: usize = 128;
+
+pub const BIDS: usize = 1024;
+
 // A case as it is held: its records keep their ranges, and its tables never grow past what was reserved for them.
 #[derive(Drop)]
 pub struct Book {
@@ -31,9 +38,9 @@ impl Book {
         ensures empty { IfOk result (λ b. (b.demands.items ≡ []) × (b.borders.items ≡ []) × (b.bids.items ≡ [])) }
     {
         Ok(Book {
-            demands: Vec::with_capacity(heap, 48)?,
-            borders: Vec::with_capacity(heap, 128)?,
-            bids: Vec::with_capacity(heap, 1024)?,
+            demands: Vec::with_capacity(heap, AREAS)?,
+            borders: Vec::with_capacity(heap, BORDERS)?,
+            bids: Vec::with_capacity(heap, BIDS)?,
         })
     }
 }
@@ -44,9 +51,9 @@ impl Amounts {
         ensures empty { IfOk result (λ b. (b.satisfied.items ≡ []) × (b.flows.items ≡ []) × (b.activated.items ≡ [])) }
     {
         Ok(Amounts {
-            satisfied: Vec::with_capacity(heap, 48)?,
-            flows: Vec::with_capacity(heap, 128)?,
-            activated: Vec::with_capacity(heap, 1024)?,
+            satisfied: Vec::with_capacity(heap, AREAS)?,
+            flows: Vec::with_capacity(heap, BORDERS)?,
+            activated: Vec::with_capacity(heap, BIDS)?,
         })
     }
 }

@@ -8,6 +8,7 @@ use crate::book::Book;
 use crate::refusal::Refusal;
 use crate::trade::{Bid, Border};
 
+// The parameters are those of the calls of a cycle, as callers have them.
 impl Book {
     // Sets an area's demand.
     pub fn revise(&mut self, area: usize, demand: i32) -> Result<(), Refusal>

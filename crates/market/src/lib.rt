@@ -9,7 +9,7 @@ mod refusal;
 mod settled;
 mod trade;
 
-pub use book::{Amounts, Book};
+pub use book::{AREAS, Amounts, BIDS, BORDERS, Book};
 pub use changes::{is_demand_in_range, is_limit_in_range};
 pub use question::{ask, first_no};
 pub use refusal::Refusal;

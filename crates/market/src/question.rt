@@ -12,7 +12,7 @@ pub fn first_no<F: Fn(usize) -> bool>(places: usize, passes: F) -> Option<usize>
     ensures value { (ok : ℕ → Bool) → Computes (F.post passes) places ok → result ≡ first_no ok 0 places }
     ensures first { (ok : ℕ → Bool) → Computes (F.post passes) places ok → FirstNo ok places result }
 {
-    // A loop that stops at the first no, in so many words: that is what a question is said to be.
+    // No `find`: that a question is a loop over places, and stops at the first no, is a form that docs/DECISIONS.md names.
     for place in 0..places {
         if !passes(place) {
             return Some(place);

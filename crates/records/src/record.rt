@@ -60,7 +60,7 @@ impl Record for u32 {
     const SIZE: usize = 4;
 
     fn first(bytes: &[u8]) -> Option<(u32, &[u8])> {
-        // A header word is read by this: four named bytes and the rest.
+        // By a slice pattern and not as the others, since header words are read by it: four named bytes and the rest say how a word lies.
         let [a, b, c, d, rest @ ..] = bytes else {
             return None;
         };

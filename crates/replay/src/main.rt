@@ -49,7 +49,7 @@ enum Named {
     Netting,
 }
 
-// A call that has its bytes with it.
+// A call that has its bytes with it, where `cycle::Call` lends them: one type for both would make every call generic in how it holds its bytes.
 #[derive(Drop)]
 enum Planned {
     Load(Vec<u8>),

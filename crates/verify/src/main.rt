@@ -2,6 +2,7 @@
 #![tactic(auto)]
 
 use foldureem::{Failure, verdict};
+use listing::ROOM;
 use program::{Program, Told, report};
 use std::alloc::{AllocError, Global};
 use std::fs;
@@ -24,9 +25,6 @@ standard error, nothing on standard output, and status 1.
   --version  writes the version",
     version: "verify 0.1.0",
 };
-
-// No listing is longer. The room is lent, since the same call serves C.
-const LISTING: usize = 65536;
 
 fn main(rt: HostRuntime) -> ExitCode {
     run(&rt).unwrap_or(ExitCode::FAILURE)
@@ -66,13 +64,14 @@ fn verify(rt: &HostRuntime, case: &str, proposal: &str) -> Result<ExitCode, Told
             report(rt, println!(rt; "refused {refusal}"))?;
             Ok(ExitCode::FAILURE)
         }
+        // Told in the words of the language's own error.
         Err(Failure::OutOfMemory) => report(rt, Err(AllocError)),
     }
 }
 
-// Room for any listing.
+// Room for any listing. It is lent, since the same call serves C.
 fn room(heap: Global) -> Result<Vec<u8>, AllocError> {
-    vec![in heap; 0u8; LISTING]
+    vec![in heap; 0u8; ROOM]
 }
 
 // A whole file; where it can't be read, a message that names it.

@@ -32,6 +32,7 @@ pub fn write_case(book: &Book, out: &mut [u8]) -> Result<usize, Refusal>
     let bids_at = borders_at + Border::SIZE * borders.len();
     let size = bids_at + Bid::SIZE * bids.len();
     check_room(size, out)?;
+    // Here and below header words are written from a `usize`, to which no `From` leads from u32; nothing is cut off.
     put_table(
         &[
             u32::from(Kind::Case) as usize,

@@ -28,6 +28,7 @@ pub fn put_table<T: Written>(table: &[T], out: &mut [u8])
     requires { T.Written.SIZE * length table.now ≤ length out.old }
     ensures { out.new ≡ each T.Written.writes table.now ++ drop (T.Written.SIZE * length table.now) out.old }
 {
+    // By place: after `chunks_exact_mut` and `zip` nothing is known of the buffer.
     for (place, record) in table.iter().enumerate() {
         record.put(&mut out[T::SIZE * place..]);
     }

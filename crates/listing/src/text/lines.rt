@@ -8,6 +8,7 @@ use crate::sums::Activated;
 use crate::text::Text;
 use crate::total::Totals;
 
+// Each line asks for the room that it may take, and uses it up: no invariant of a text can say that.
 impl Text {
     // The heading.
     pub(super) fn push_heading(&mut self)
