@@ -62,15 +62,7 @@ module _ {E : Type 0} where
   and_then_second (Ok u) b h = h
   and_then_second (Err e) b h = let z : ◌≡◌ {A = ℕ} 0 1 = cc in absurd (omega arith)
 
-  -- one test in front of the rest
-  pub passed : (t : Bool) (e : E) (rest : Result (Unit {0}) E) → t ≡ true → and_then (ask_one t e) rest ≡ rest
-  passed true e rest h = refl
-  passed false e rest h = cc
-
-  pub stopped : (t : Bool) (e : E) (rest : Result (Unit {0}) E) → t ≡ false → and_then (ask_one t e) rest ≡ Err e
-  stopped true e rest h = cc
-  stopped false e rest h = refl
-
+  -- one test
   pub ask_one_yes : (t : Bool) (refusal : E) → ask_one t refusal ≡ Ok tt → t ≡ true
   ask_one_yes true refusal h = refl
   ask_one_yes false refusal h = cc

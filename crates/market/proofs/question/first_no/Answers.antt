@@ -1,4 +1,4 @@
-use Rattle.std.proofs.Common.{◌≡◌, ℕ, ◌<◌, Bool, true, false, Some, None, sym, arith, rules}
+use Rattle.std.proofs.Common.{ℕ, Bool, true, false, Some, None, sym, arith, rules}
 use Rattle.market.specs.First.{FirstNo, FirstFails, Computes}
 use Rattle.market.proofs.Firsts.{first_no_is}
 use Rattle.market.proofs.question.first_no.Goals as goal
