@@ -1,7 +1,7 @@
 -- Bytes put into a buffer, each run behind the one before it. Assumes nothing.
 use Rattle.std.proofs.Common.{◌≡◌, ℕ, ◌+◌, ◌-◌, ◌*◌, ◌<◌, ◌≤◌, List, [], ◌∷◌, ◌++◌, length, get_or, take, drop, sym, ap, ◌∙◌, append_assoc, append-nil, mul-le-mul_left, arith, length-append, length-drop}
 use borrow.Rule.Slice.PartMut.{put_mid}
-use Rattle.std.proofs.lemmas.List.{drop-drop, take_at, take_rest, drop_at, take_more, take_all, drop_all, length-take-le}
+use Rattle.std.proofs.lemmas.List.{drop-drop, take_at, take_rest, drop_at, take_more, drop_all, length-take-le}
 use Rattle.layout.specs.CaseBytes.{each}
 use Rattle.layout.proofs.RoundTrips.{length_each}
 
@@ -46,8 +46,3 @@ module _ {X : Type 0} (writes : X → List ℕ) (size : ℕ) (sized : (x : X) �
       let more : take i table ++ (x ∷ []) ≡ take (i + 1) table = ap (λ y. take i table ++ (y ∷ [])) is ∙ sym (take_more table i x below) in
       next.0
       ∙ (ap (λ l. l ++ drop (at + size) out) (each_more (take i table) x ∙ ap (each writes) more) ∙ ap (λ m. each writes (take (i + 1) table) ++ drop m out) (omega arith))
-
-  -- with the last record in, the whole table is
-  pub put_last : (table : List X) (n : ℕ) (out buffer : List ℕ) → length table ≤ n → n ≤ length table → buffer ≡ each writes (take n table) ++ drop (size * n) out
-      → buffer ≡ each writes table ++ drop (size * length table) out
-  put_last table n out buffer past below begins = begins ∙ (ap (λ l. each writes l ++ drop (size * n) out) (take_all n table past) ∙ ap (λ m. each writes table ++ drop (size * m) out) (omega arith))
