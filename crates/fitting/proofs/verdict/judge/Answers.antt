@@ -9,16 +9,13 @@ use Rattle.fitting.proofs.Best.{judged_unbeaten}
 use Rattle.fitting.proofs.Passed.{passed_from_judged, within_from_passed}
 use Rattle.fitting.proofs.verdict.judge.Goals as goal
 
-pub returns : goal.returns
-returns g c = record {
-  answer = c.ask_all.ensures;
-  unbeaten = λ yes-it-is counts.
-      let e = sym c.ask_all.ensures ∙ yes-it-is in
-      record {
-        within = within_from_passed g.S.Scale.meaning (held c.args.book.now) (selection_held c.args.proposal.now) (price_held g.S.Scale.meaning c.args.proposal.now) counts
-            (passed_from_judged g.S.Scale.meaning (held c.args.book.now) (selection_held c.args.proposal.now) (price_held g.S.Scale.meaning c.args.proposal.now) e);
-        best = λ y beats. ∥∥₁_elim c.args.book.now.valid (T_prop false) (λ valid.
-            (judged_unbeaten g.S.Scale.meaning g.met.S.Scale.lawful (held c.args.book.now) valid (selection_held c.args.proposal.now)
-            (λ a. price_part (levels_of c.args.proposal.now) (prices_bytes c.args.proposal.now) a) counts e).best y beats);
-      };
-}
+pub returns-clause-unbeaten : goal.returns-clause-unbeaten
+returns-clause-unbeaten g c = λ yes-it-is counts.
+    let e = sym c.ask_all.ensures ∙ yes-it-is in
+    record {
+      within = within_from_passed g.S.Scale.meaning (held c.args.book.now) (selection_held c.args.proposal.now) (price_held g.S.Scale.meaning c.args.proposal.now) counts
+          (passed_from_judged g.S.Scale.meaning (held c.args.book.now) (selection_held c.args.proposal.now) (price_held g.S.Scale.meaning c.args.proposal.now) e);
+      best = λ y beats. ∥∥₁_elim c.args.book.now.valid (T_prop false) (λ valid.
+          (judged_unbeaten g.S.Scale.meaning g.met.S.Scale.lawful (held c.args.book.now) valid (selection_held c.args.proposal.now)
+          (λ a. price_part (levels_of c.args.proposal.now) (prices_bytes c.args.proposal.now) a) counts e).best y beats);
+    }

@@ -25,7 +25,7 @@ loop-place-preserved c =
     (to_z-of_z w64 c.injection.result (record { sfits = c.injection.type_inv }) ∙ c.injection.ensures) c.loop-place.invariant in
     subst (λ (l : List ℤ). Activations (vec_items c.args.self.book.now.bids) (selection_held c.args.self.proposal.now).activated (c.loop-place.place + 1) l) (sym c.add.ensures) turn.more
 
-pub returns : goal.returns
-returns c =
-    let all = activations_all _ _ _ c.args.self.book.now.valid (selection_held c.args.self.proposal.now).activated c.loop-place.place c.loop-place.sums (omega (arith, ap length c.deref-bid-items.ensures.value)) c.loop-place.invariant in
-    record { sums = all.0; small = all.1 }
+pub returns-clause-small : goal.returns-clause-small
+returns-clause-small c =
+    activations_all _ _ _ c.args.self.book.now.valid (selection_held c.args.self.proposal.now).activated c.loop-place.place c.loop-place.sums
+    (omega (arith, ap length c.deref-bid-items.ensures.value)) c.loop-place.invariant

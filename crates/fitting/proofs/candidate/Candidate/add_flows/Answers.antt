@@ -1,10 +1,7 @@
-use Rattle.std.proofs.Common.{◌+◌, List, length, get_or, set, ℤ, pos, ◌+ℤ◌, ◌-ℤ◌, vec_items, sym, refl, ap, subst, arith, w64, SFits, to_z, of_z, rules}
+use Rattle.std.proofs.Common.{◌+◌, List, get_or, set, ℤ, pos, ◌+ℤ◌, ◌-ℤ◌, vec_items, sym, refl, subst, arith, w64, SFits, to_z, of_z}
 use Rattle.layout.specs.Sections.{selection_held}
-use Rattle.fitting.proofs.Sheets.{Flowing, Flowed, flowed, flowing_none, flowing_all, small_flow, inflow_is, outflow_is}
+use Rattle.fitting.proofs.Sheets.{Flowing, Flowed, flowed, small_flow, inflow_is, outflow_is}
 use Rattle.fitting.proofs.candidate.Candidate.add_flows.Goals as goal
-
-pub loop-place-init : goal.loop-place-init
-loop-place-init c = flowing_none _ _ _ (search rules) c.requires
 
 pub add-requires : goal.add-requires
 add-requires c =
@@ -40,6 +37,3 @@ loop-place-preserved c =
     subst (λ (l : List ℤ). Flowing c.args.activations (vec_items c.args.self.book.now.borders) (selection_held c.args.self.proposal.now).flows (c.loop-place.place + 1) l) (sym c.add-in-loop-place.ensures)
     (subst (λ (l : List ℤ). Flowing c.args.activations (vec_items c.args.self.book.now.borders) (selection_held c.args.self.proposal.now).flows (c.loop-place.place + 1) (set l c.from-in-loop-place.result (get_or l c.from-in-loop-place.result (pos 0) +ℤ to_z w64 (of_z w64 c.from-flow.result)))) (sym c.add.ensures)
     turn.more)
-
-pub returns : goal.returns
-returns c = flowing_all _ _ _ c.loop-place.place _ (omega (arith, ap length c.deref-border-items.ensures.value)) c.loop-place.invariant
