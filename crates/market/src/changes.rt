@@ -8,7 +8,8 @@ use crate::book::Book;
 use crate::refusal::Refusal;
 use crate::trade::{Bid, Border};
 
-// The parameters are those of the calls of a cycle, as callers have them.
+// The parameters are those of the calls of a cycle, as callers have them. An element is found by `get`, and set by its index when every
+// question has been asked: with a `get_mut` in hand the book's fact is owed before that, and its proof did not close.
 impl Book {
     // Sets an area's demand.
     pub fn revise(&mut self, area: usize, demand: i32) -> Result<(), Refusal>
