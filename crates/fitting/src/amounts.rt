@@ -1,4 +1,4 @@
-// Whether an amount lies within its limits.
+// Whether an amount lies within its limits. An item and its amount are two parameters: the case has the one, and the selection the other.
 ghost use Rattle.std.specs.Prelude.{◌≡◌, ◌&&◌, int_le};
 ghost use Rattle.market.specs.Selections.{satisfied_allowed, flow_allowed, activated_allowed};
 

@@ -57,6 +57,7 @@ fn check_records(case: CaseReader) -> Result<(), Refusal>
     ask_offers(case)
 }
 
+// Here and elsewhere the caller lends the bytes, and the scale says whether there may be bids: two parameters from two places.
 // The case in the bytes, or the first question that gets a no. The bytes are exactly those that write the case.
 pub fn read_case<'a>(bytes: &'a [u8], bids: bool) -> Result<CaseReader<'a>, Refusal>
     ensures answer { forget result ≡ case_answer bids bytes.now }

@@ -108,6 +108,7 @@ const OTHER_COUNTS: Counts = Counts {
     bids: 2,
 };
 
+// By place: the rows of a table name it, and a part of the bytes would be no plainer.
 fn change(bytes: &mut [u8], at: usize, value: u32) {
     if let Some(word) = bytes
         .get_mut(at..)
@@ -141,10 +142,7 @@ fn said_of_case(book: &mut Book, bytes: &[u8], bids: bool) -> Said {
 }
 
 fn said_of_proposal(bytes: &[u8], counts: Counts, levels: usize) -> Said {
-    match read_proposal(bytes, counts, levels) {
-        Ok(_) => Said(None),
-        Err(refusal) => Said(Some(refusal)),
-    }
+    Said(read_proposal(bytes, counts, levels).err())
 }
 
 // How many bytes were written, are they the same, and is what lies behind them left as it was?

@@ -55,6 +55,7 @@ pub fn sum_of_amounts(amounts: &[u32]) -> u64
     amounts.iter().map(|amount| u64::from(*amount)).sum()
 }
 
+// A bid and its amount are two parameters: the case has the one, and the selection the other.
 // What an amount of a bid is paid: an up bid is paid its price, a down bid pays it.
 fn payment(bid: Bid, amount: u32) -> i64
     requires price { T (bid_in_range bid) }

@@ -12,6 +12,7 @@ type Price = (i64, (i64, i64));
 // The price with the given levels, each moved by so much.
 fn price((a, b, c): Levels, (x, y, z): Levels) -> Result<Price, Fail> {
     let levels = [a.wrapping_add(x), b.wrapping_add(y), c.wrapping_add(z)];
+    // No `ok_or`, which wants an error that can be dropped.
     match Activation::read_price(levels.map(i64::to_le_bytes).as_flattened()) {
         Some(price) => Ok(price),
         None => Err(Fail::new("the price is out of range")),

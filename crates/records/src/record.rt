@@ -26,7 +26,7 @@ pub trait Record: Sized {
 pub fn record_at<R: Record>(bytes: &[u8], place: usize) -> Option<R>
     ensures { result ≡ record_at R.Record.reads R.Record.SIZE bytes.now place }
 {
-    // Asked of the number of records, a loop over all of them asks it once; `bytes.get(..)` at each place is slower by a tenth.
+    // Asked of the number of records: `get` would be no plainer, since a place may be any number and wants `checked_mul` first; and it is slower.
     if place >= bytes.len() / R::SIZE {
         return None;
     }
@@ -60,7 +60,7 @@ impl Record for u32 {
     const SIZE: usize = 4;
 
     fn first(bytes: &[u8]) -> Option<(u32, &[u8])> {
-        // By a slice pattern and not as the others, since header words are read by it: four named bytes and the rest say how a word lies.
+        // By a slice pattern, a form that docs/DECISIONS.md names: each header word is four named bytes and the rest.
         let [a, b, c, d, rest @ ..] = bytes else {
             return None;
         };

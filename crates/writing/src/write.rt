@@ -51,6 +51,7 @@ pub fn write_case(book: &Book, out: &mut [u8]) -> Result<usize, Refusal>
     Ok(size)
 }
 
+// Where tables begin follows here from the lists, as in reading it follows from a header's words.
 // How many bytes a proposal takes, where that is a number of the machine.
 fn proposal_size(amounts: &Amounts, prices: &[i64]) -> Option<usize>
     ensures { SomeIff result (proposal_size (amounts_held amounts.now) prices.now < 2 ^ 64) (proposal_size (amounts_held amounts.now) prices.now) }
@@ -62,6 +63,7 @@ fn proposal_size(amounts: &Amounts, prices: &[i64]) -> Option<usize>
     usize::try_from(36 + 4 * amounts + 8 * prices.len() as u128).ok()
 }
 
+// The levels of all prices in one list, and how many a price has, as a solver has them.
 // Writes a proposal of the amounts and of the prices' levels, one area's after the other's, at the start of the buffer, and answers how many bytes that took;
 // the bytes behind keep their values. Where they do not fit, nothing is written.
 pub fn write_proposal(
