@@ -41,7 +41,13 @@ module _ (m : Meaning) (c : Case) (bs : List ℕ) where
         activated_count = ap length (records_part little_endian 4 (length c.bids) (activated_offset (counts_of c)) bs (omega arith) (omega arith)) ∙ length_table little_endian 4 (length c.bids) (drop (activated_offset (counts_of c)) bs);
       }
 
-  -- a submit that is taken leaves a selection that nothing beats
+  -- a submit that is taken leaves a selection within the limits
+  pub submit_within : submit_answer m c bs ≡ Ok tt → WithinLimits c (proposed c bs)
+  submit_within e =
+      let both = both_from_and_then _ _ e in
+      within_from_passed m c (proposed c bs) (price_in m c bs) (counted_bytes both.0) (passed_from_judged m c (proposed c bs) (price_in m c bs) both.1)
+
+  -- and one that nothing beats
   pub submit_unbeaten : Laws m → Valid c → submit_answer m c bs ≡ Ok tt → Unbeaten m c (proposed c bs)
   submit_unbeaten laws valid e =
       let both = both_from_and_then _ _ e in

@@ -208,10 +208,11 @@ static WITHDRAWING: [Step; 4] = [
 
 // Words as the bytes of a file.
 fn bytes_of(heap: Global, words: &[i32]) -> Result<Vec<u8>, AllocError> {
-    words
-        .iter()
-        .flat_map(|word| word.to_le_bytes())
-        .collect(heap)
+    let mut bytes = Vec::with_capacity(heap, 4 * words.len())?;
+    for word in words.iter() {
+        bytes.extend_from_slice(&word.to_le_bytes())?;
+    }
+    Ok(bytes)
 }
 
 fn answered(rt: &HostRuntime, what: &str, answer: Answer) -> io::Result<()> {

@@ -6,7 +6,7 @@ use native.Mathlib.Decide.{ℕ_discrete}
 use lib.ListN.{get_or-replicate}
 use lib.Signed.{mag}
 use Rattle.std.proofs.ByRecursion.{All-get_or}
-use Rattle.std.proofs.lemmas.List.{get_or_default}
+use Rattle.std.proofs.lemmas.List.{get_or_default, take_all}
 use Rattle.std.proofs.lemmas.Int.{ints, to_z-of_z}
 use Rattle.std.proofs.lemmas.Bool.{eq-eqb, ne_eqb, and_parts}
 use Rattle.market.specs.declared.trade.Direction.{Direction}
@@ -233,12 +233,14 @@ flowed ds bs os valid items same base xs k sums from to x out in' h from_at to_a
           inv));
     }
 
--- at the end of the bids no sum is past 2^42
+-- at the end of the bids: the sums over all of them, none past 2^42
 pub activations_all : (ds : List ℤ) (bs : List Border) (os : List Bid) → ∥ Valid (case_of ds bs os) ∥₁ → (xs : List ℕ) (k : ℕ) (sums : List ℤ) → k ≡ length os → Activations os xs k sums →
-    (a : ℕ) → a < 48 → (neg_ℤ (pos 4398046511104) ≤ℤ get_or sums a (pos 0)) × (get_or sums a (pos 0) ≤ℤ pos 4398046511104)
-activations_all ds bs os valid xs k sums e inv a h =
-    let few : length os ≤ 1024 = few_bids ds bs os valid in
-    (omega (arith, ints, (inv.small a h).least), omega (arith, ints, (inv.small a h).most))
+    ((a : ℕ) → a < 48 → get_or sums a (pos 0) ≡ activated_in a os xs) × ((a : ℕ) → a < 48 → (neg_ℤ (pos 4398046511104) ≤ℤ get_or sums a (pos 0)) × (get_or sums a (pos 0) ≤ℤ pos 4398046511104))
+activations_all ds bs os valid xs k sums e inv =
+    let few : length os ≤ 1024 = few_bids ds bs os valid in (
+      λ a h. inv.sum a h ∙ ap (λ l. activated_in a l xs) (take_all k os (omega arith)),
+      λ a h. (omega (arith, ints, (inv.small a h).least), omega (arith, ints, (inv.small a h).most)),
+    )
 
 -- a flow of 32 bits, as the code has it in 64
 pub small_flow : (x : ℤ) → mag x < 2147483648 → Small 2147483648 x

@@ -1,6 +1,5 @@
 // Memory for the text of a listing.
 ghost use Rattle.std.specs.Prelude.{◌≤◌, vec_capacity};
-ghost use Rattle.listing.specs.declared.text.TheConstants.{ROOM};
 
 mod calls;
 mod lines;
@@ -14,5 +13,5 @@ pub const ROOM: usize = 65_536;
 #[derive(Drop)]
 pub struct Text {
     bytes: Vec<u8>,
-    ghost reserved: { ROOM ≤ vec_capacity bytes },
+    ghost reserved: { 65536 ≤ vec_capacity bytes },
 }

@@ -7,7 +7,8 @@
 --   records        as many whole records as the bytes hold
 --   record_at      the record at a place, or none
 --   bytes_of       a number as so many bytes
-use Rattle.std.specs.Prelude.{ℕ, zero, suc, ◌*◌, ◌/◌, ◌%◌, cond, List, [], ◌∷◌, length, take, drop, ℤ, Some, None, Option, nat_lt}
+--   placed         a list with bytes put in at a place
+use Rattle.std.specs.Prelude.{ℕ, zero, suc, ◌+◌, ◌*◌, ◌/◌, ◌%◌, cond, List, [], ◌∷◌, ◌++◌, length, take, drop, ℤ, Some, None, Option, nat_lt}
 use Rattle.std.specs.Int.{w32}
 use Rattle.std.proofs.Common.{to_z}
 use Rattle.scale.specs.Levels.{little_endian}
@@ -34,3 +35,6 @@ record_at record_of size bs k = cond (nat_lt k (length bs / size)) (Some (record
 abbrev pub bytes_of : (width : ℕ) → ℕ → List ℕ
 bytes_of zero n = []
 bytes_of (suc k) n = n % 256 ∷ bytes_of k (n / 256)
+
+abbrev pub placed : ℕ → List ℕ → List ℕ → List ℕ
+placed at bytes out = take at out ++ (bytes ++ drop (at + length bytes) out)

@@ -124,31 +124,32 @@ fn plan_of(rt: &HostRuntime, path: &str, text: &str) -> Result<Plan, Told> {
 }
 
 impl Plan {
-    // Adds what a line says.
+    // Adds what a line says. A blank line or a remark is passed over before its words are gathered, which takes memory.
     fn take(&mut self, rt: &HostRuntime, line: &str) -> anyhow::Result<()> {
-        match understood(rt, line)? {
-            None => {}
-            Some(Line::Scale(scale)) => {
+        let said = line.trim_start();
+        if said.is_empty() || said.starts_with('#') {
+            return Ok(());
+        }
+        match understood(rt, said)? {
+            Line::Scale(scale) => {
                 ensure!(
                     self.scale.is_none() && self.calls.is_empty(),
                     "the scale stands before the first call"
                 );
                 self.scale = Some(scale);
             }
-            Some(Line::Call(call)) => self.calls.push(call)?,
+            Line::Call(call) => self.calls.push(call)?,
         }
         Ok(())
     }
 }
 
-// What a line says; nothing where it is blank or a remark.
-fn understood(rt: &HostRuntime, line: &str) -> anyhow::Result<Option<Line>> {
+// What a line says.
+fn understood(rt: &HostRuntime, line: &str) -> anyhow::Result<Line> {
     let words: Vec<&str> = line.split_whitespace().take(5).collect(rt.alloc())?;
     let call = match words.as_slice() {
-        [] => return Ok(None),
-        [verb, ..] if verb.starts_with('#') => return Ok(None),
-        ["scale", "activation"] => return Ok(Some(Line::Scale(Named::Activation))),
-        ["scale", "netting"] => return Ok(Some(Line::Scale(Named::Netting))),
+        ["scale", "activation"] => return Ok(Line::Scale(Named::Activation)),
+        ["scale", "netting"] => return Ok(Line::Scale(Named::Netting)),
         ["load", file] => Planned::Load(fs::read(rt, *file)?),
         ["submit", file] => Planned::Submit(fs::read(rt, *file)?),
         ["revise", area, demand] => Planned::Revise(number(area)?, number(demand)?),
@@ -161,7 +162,7 @@ fn understood(rt: &HostRuntime, line: &str) -> anyhow::Result<Option<Line>> {
         ["read", "bid", bid] => Planned::Read(Item::Bid(number(bid)?)),
         _ => return Err(anyhow!("{NO_CALL}")),
     };
-    Ok(Some(Line::Call(call)))
+    Ok(Line::Call(call))
 }
 
 fn number<N: FromStr>(word: &str) -> anyhow::Result<N>

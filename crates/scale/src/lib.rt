@@ -1,6 +1,7 @@
 // Scales of cost: the kinds of cost by which one selection beats another.
 #![tactic(auto)]
 
+mod level;
 mod money;
 mod one_level;
 mod pair;
@@ -8,6 +9,7 @@ mod satisfaction;
 mod scale;
 mod volume;
 
+pub use level::{compare_numbers, read_level};
 pub use money::Money;
 pub use one_level::OneLevel;
 pub use pair::Pair;

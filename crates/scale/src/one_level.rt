@@ -3,6 +3,7 @@ ghost use Rattle.std.specs.Prelude.{◌≡◌, ℕ, ℤ, Bool};
 ghost use Rattle.scale.specs.Single.{single};
 ghost use Rattle.scale.specs.Singles.{Bounded, single_laws};
 
+use super::level::{compare_numbers, read_level};
 use super::scale::Scale;
 use std::cmp::Ordering;
 
@@ -76,9 +77,7 @@ impl<S: OneLevel> Scale for S {
     }
 
     fn read_price(bytes: &[u8]) -> Option<i64> {
-        let level = i64::from_le_bytes(*bytes.as_array()?);
-        let most = i64::from(S::MOST);
-        (-most..=most).contains(&level).then_some(level)
+        read_level(bytes, S::MOST)
     }
 
     fn zero() -> i128 {
@@ -98,6 +97,6 @@ impl<S: OneLevel> Scale for S {
     }
 
     fn compare(first: i128, second: i128) -> Ordering {
-        first.cmp(&second)
+        compare_numbers(first, second)
     }
 }

@@ -1,9 +1,14 @@
 -- Bytes put into a buffer, each run behind the one before it. Assumes nothing.
-use Rattle.std.proofs.Common.{◌≡◌, ℕ, ◌+◌, ◌-◌, ◌*◌, ◌<◌, ◌≤◌, List, [], ◌∷◌, ◌++◌, length, get_or, take, drop, sym, ap, ◌∙◌, append_assoc, append-nil, mul-le-mul_left, arith, length-append, length-drop}
+use Rattle.std.proofs.Common.{◌≡◌, ℕ, ◌+◌, ◌-◌, ◌*◌, ◌<◌, ◌≤◌, List, [], ◌∷◌, ◌++◌, length, get_or, take, drop, sym, ap, ◌∙◌, append_assoc, append-nil, mul-le-mul_left, arith, length-append, length-drop, length-take}
 use borrow.Rule.Slice.PartMut.{put_mid}
 use Rattle.std.proofs.lemmas.List.{drop-drop, take_at, take_rest, drop_at, take_more, drop_all, length-take-le}
+use Rattle.records.specs.Bytes.{placed}
 use Rattle.layout.specs.CaseBytes.{each}
 use Rattle.layout.proofs.RoundTrips.{length_each}
+
+-- bytes put in at a place leave a buffer as long as it is
+pub length_placed : (at : ℕ) (bytes out : List ℕ) → at + length bytes ≤ length out → length (placed at bytes out) ≡ length out
+length_placed at bytes out fits = simp (length-append, length-take, length-drop) (omega arith)
 
 -- a buffer whose end, from a place on, was lent and came back as a part
 abbrev pub ended : ℕ → List ℕ → List ℕ → List ℕ

@@ -27,5 +27,5 @@ loop-place-preserved c =
 
 pub returns-clause-small : goal.returns-clause-small
 returns-clause-small c =
-    activations_all _ _ _ c.args.self.book.now.valid (selection_held c.args.self.proposal.now).activated c.loop-place.place c.loop-place.sums
-    (omega (arith, ap length c.deref-bid-items.ensures.value)) c.loop-place.invariant
+    (activations_all _ _ _ c.args.self.book.now.valid (selection_held c.args.self.proposal.now).activated c.loop-place.place c.loop-place.sums
+    (omega (arith, ap length c.deref-bid-items.ensures.value)) c.loop-place.invariant).1
