@@ -24,10 +24,21 @@ use Rattle.fitting.proofs.Best.{judged_unbeaten}
 use Rattle.fitting.proofs.Passed.{passed_from_judged, within_from_passed}
 use Rattle.cycle.specs.Calls.{proposed, price_in, submit_answer}
 
--- what a taken submit gives: the selection in the proposal is the one in the bytes, and it is within the limits
+-- amounts that are one for each record are no more than a case can have
+pub few_held : (c : Case) (p : Proposal) → length c.demands ≤ 48 → length c.borders ≤ 128 → length c.bids ≤ 1024 → OneForEach c (selection_held p) → few p ≡ true
+few_held c p few_areas few_borders few_bids counts =
+    let la = length_table signed_word 4 (length (satisfied_bytes p) / 4) (satisfied_bytes p) in
+    let lb = length_table signed_word 4 (length (flows_bytes p) / 4) (flows_bytes p) in
+    let lo = length_table little_endian 4 (length (activated_bytes p) / 4) (activated_bytes p) in
+    and_from _ _ (le-leb _ _ (subst (λ (n : ℕ). n ≤ 48) (sym counts.satisfied_count ∙ la) few_areas))
+    (and_from _ _ (le-leb _ _ (subst (λ (n : ℕ). n ≤ 128) (sym counts.flows_count ∙ lb) few_borders))
+    (le-leb _ _ (subst (λ (n : ℕ). n ≤ 1024) (sym counts.activated_count ∙ lo) few_bids)))
+
+-- what a taken submit gives: the selection in the proposal is the one in the bytes, it is within the limits, and its amounts are few where the case's records are
 pub record Taken (m : Meaning) (c : Case) (bs : List ℕ) (p : Proposal) : Type 0 where
   pub same : selection_held p ≡ proposed c bs
   pub counts : OneForEach c (selection_held p)
+  pub enough : length c.demands ≤ 48 → length c.borders ≤ 128 → length c.bids ≤ 1024 → few p ≡ true
   pub within : WithinLimits c (selection_held p)
 
 module _ (m : Meaning) (c : Case) (bs : List ℕ) where
@@ -88,15 +99,12 @@ module _ (m : Meaning) (c : Case) (bs : List ℕ) (p : Proposal) where
         record {
           same = selection_same holds_here;
           counts = counts;
+          enough = λ few_areas few_borders few_bids. few_held c p few_areas few_borders few_bids counts;
           within = within_from_passed m c (selection_held p) (price_held m p) counts (passed_from_judged m c (selection_held p) (price_held m p) (sym e));
         }
 
 -- amounts within the limits of a book are no more than a case can have
 pub few_within : (c : Case) (p : Proposal) → ∥ Valid c ∥₁ → ∥ WithinLimits c (selection_held p) ∥₁ → few p ≡ true
 few_within c p valid fits = ∥∥₁_elim valid (Bool-set _ _) (λ v. ∥∥₁_elim fits (Bool-set _ _) (λ within.
-    let la = length_table signed_word 4 (length (satisfied_bytes p) / 4) (satisfied_bytes p) in
-    let lb = length_table signed_word 4 (length (flows_bytes p) / 4) (flows_bytes p) in
-    let lo = length_table little_endian 4 (length (activated_bytes p) / 4) (activated_bytes p) in
-    and_from _ _ (le-leb _ _ (subst (λ (n : ℕ). n ≤ 48) (sym within.satisfied_count ∙ la) v.few_areas))
-    (and_from _ _ (le-leb _ _ (subst (λ (n : ℕ). n ≤ 128) (sym within.flows_count ∙ lb) v.few_borders))
-    (le-leb _ _ (subst (λ (n : ℕ). n ≤ 1024) (sym within.activated_count ∙ lo) v.few_bids)))))
+    few_held c p v.few_areas v.few_borders v.few_bids
+    (record { satisfied_count = within.satisfied_count; flows_count = within.flows_count; activated_count = within.activated_count })))

@@ -233,6 +233,13 @@ flowed ds bs os valid items same base xs k sums from to x out in' h from_at to_a
           inv));
     }
 
+pub flowing_none : (base : List ℤ) (borders : List Border) (xs : List ℤ) → length base ≡ 48 → ((a : ℕ) → a < 48 → (neg_ℤ (pos 4398046511104) ≤ℤ get_or base a (pos 0)) × (get_or base a (pos 0) ≤ℤ pos 4398046511104)) → Flowing base borders xs 0 base
+flowing_none base borders xs len small = record {
+  long = len;
+  sum = λ a h. omega (arith, ints);
+  small = λ a h. record { least = (small a h).0; most = (small a h).1 };
+}
+
 -- at the end of the bids: the sums over all of them, none past 2^42
 pub activations_all : (ds : List ℤ) (bs : List Border) (os : List Bid) → ∥ Valid (case_of ds bs os) ∥₁ → (xs : List ℕ) (k : ℕ) (sums : List ℤ) → k ≡ length os → Activations os xs k sums →
     ((a : ℕ) → a < 48 → get_or sums a (pos 0) ≡ activated_in a os xs) × ((a : ℕ) → a < 48 → (neg_ℤ (pos 4398046511104) ≤ℤ get_or sums a (pos 0)) × (get_or sums a (pos 0) ≤ℤ pos 4398046511104))
@@ -241,6 +248,9 @@ activations_all ds bs os valid xs k sums e inv =
       λ a h. inv.sum a h ∙ ap (λ l. activated_in a l xs) (take_all k os (omega arith)),
       λ a h. (omega (arith, ints, (inv.small a h).least), omega (arith, ints, (inv.small a h).most)),
     )
+
+pub flowing_all : (base : List ℤ) (bs : List Border) (xs : List ℤ) (k : ℕ) (sums : List ℤ) → k ≡ length bs → Flowing base bs xs k sums → (a : ℕ) → a < 48 → get_or sums a (pos 0) ≡ get_or base a (pos 0) +ℤ flows_into a bs xs
+flowing_all base bs xs k sums e inv a h = inv.sum a h ∙ ap (λ l. get_or base a (pos 0) +ℤ flows_into a l xs) (take_all k bs (omega arith))
 
 -- a flow of 32 bits, as the code has it in 64
 pub small_flow : (x : ℤ) → mag x < 2147483648 → Small 2147483648 x

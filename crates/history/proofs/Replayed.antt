@@ -5,7 +5,7 @@ use Rattle.scale.specs.Meaning.{Meaning, Laws}
 use Rattle.market.specs.Changes.{revise_answer, revised, limit_answer, limited, withdraw_answer, withdrawn}
 use Rattle.market.specs.declared.refusal.Refusal.{Refusal}
 use Rattle.cycle.specs.declared.calls.Call.{Call}
-use Rattle.cycle.specs.States.{State}
+use Rattle.cycle.specs.States.{State, fresh}
 use Rattle.cycle.specs.Sent.{Sent, Answer, sent, load, revise, limit, withdraw, submit, read, told, told_amount, read_answer}
 use Rattle.cycle.specs.Calls.{after, loaded, changed, submitted, answer_to, next, load_answer, submit_answer}
 use Rattle.history.specs.Histories.{History, in_force, standing, Lawful, Kept}
@@ -44,6 +44,9 @@ pub record Replaying (m : Meaning) (calls : List Call) (answers : List Answer) (
   pub counted : length answers ≡ i
   pub state : st ≡ state_after (history_of [] (take i calls) answers)
   pub lawful : Lawful m (history_of [] (take i calls) answers)
+
+pub replaying_none : (m : Meaning) (calls : List Call) (answers : List Answer) (st : State) → answers ≡ [] → st ≡ fresh → Replaying m calls answers 0 st
+replaying_none m calls answers st e is = subst (λ (l : List Answer). Replaying m calls l 0 st) (sym e) (record { counted = refl; state = is; lawful = tt })
 
 pub replaying_more : (m : Meaning) (calls : List Call) (answers later : List Answer) (i : ℕ) (st st' : State) (d : Call) (a : Answer) → i < length calls →
     a ≡ answer_to m st (sent (get_or calls i d)) → st' ≡ next m st (sent (get_or calls i d)) → later ≡ answers ++ (a ∷ []) →

@@ -1,5 +1,5 @@
 -- What the questions on the bytes of a case say, and what its reader holds. Assumes nothing.
-use Rattle.std.proofs.Common.{◌≡◌, ℕ, zero, suc, ◌+◌, ◌*◌, ◌/◌, ◌<◌, ◌≤◌, Bool, true, false, ◌&&◌, T, eqb, leb, List, length, get_or, take, drop, ℤ, pos, is_ok, Ok, Result, sym, refl, ap, ◌∙◌, subst, arith, eqb-true, leb-true, rules}
+use Rattle.std.proofs.Common.{◌≡◌, ℕ, zero, suc, ◌+◌, ◌*◌, ◌/◌, ◌<◌, ◌≤◌, Bool, true, false, cond, ◌&&◌, T, eqb, leb, List, length, get_or, take, drop, ℤ, pos, is_ok, Some, None, Ok, Err, Result, sym, refl, ap, ◌∙◌, subst, arith, eq-eqb, eqb-true, leb-true, rules}
 use Rattle.std.specs.List.{AllByRecursion}
 use Rattle.std.proofs.lemmas.List.{drop-drop, take-take, drop-take}
 use Rattle.std.proofs.ByRecursion.{All-from_get_or}
@@ -14,14 +14,22 @@ use Rattle.scale.specs.Levels.{little_endian}
 use Rattle.records.specs.declared.header.CaseHeader.{CaseHeader}
 use Rattle.layout.specs.declared.reader.CaseReader.{CaseReader}
 use Rattle.records.specs.Bytes.{part, word, table, records, signed_word}
-use Rattle.records.specs.Headers.{case_header_of}
+use Rattle.records.specs.Headers.{case_header_of, case_header_in}
 use Rattle.records.specs.Headers.{borders_start, bids_start, end_by}
 use Rattle.records.specs.Records.{border_of, bid_of}
 use Rattle.layout.specs.CaseBytes.{bids_offset, count_allowed, offset_right, direction_known, bytes_answer, records_answer, case_answer, case_in}
 use Rattle.layout.specs.CaseReaders.{case_read, directions_read, no_direction, direction_fine, Parts}
 use Rattle.records.specs.Records.{raw_direction}
 use Rattle.market.proofs.Firsts.{and_then_first, and_then_second, ask_one_yes, all_from_ask, ask_same}
+use Rattle.layout.proofs.Asks.{passed}
 use Rattle.records.proofs.Tables.{records_part, length_table, getD_table}
+
+case_header_there : (bs : List ℕ) (h : CaseHeader) → Some h ≡ case_header_in bs → (leb 28 (length bs) ≡ true) × (h ≡ case_header_of bs)
+case_header_there bs h e = by (leb 28 (length bs)) refl e
+  where
+    by : (t : Bool) → leb 28 (length bs) ≡ t → Some h ≡ cond t (Some (case_header_of bs)) None → (leb 28 (length bs) ≡ true) × (h ≡ case_header_of bs)
+    by true is e = (is, cc)
+    by false is e = let z : ◌≡◌ {A = ℕ} 0 1 = cc in absurd (omega arith)
 
 module _ (bids : Bool) (bs : List ℕ) where
   abbrev header_questions : CaseHeader → Result (Unit {0}) Refusal
@@ -29,6 +37,26 @@ module _ (bids : Bool) (bs : List ℕ) where
 
   abbrev kind_first : Result (Unit {0}) Refusal
   kind_first = and_then (ask_one (eqb (word 0 bs) 1) Kind) (header_questions (case_header_of bs))
+
+  -- with the header there and the kind right, two questions are left
+  header_questions_left : (h : CaseHeader) → Some h ≡ case_header_in bs → h.kind ≡ 1 → bytes_answer bids bs ≡ header_questions h
+  header_questions_left h e right =
+      let there = case_header_there bs h e in
+      let on : eqb (word 0 bs) 1 ≡ true = eq-eqb (word 0 bs) 1 (ap (λ x. x.kind) (sym there.1) ∙ right) in
+      passed (leb 28 (length bs)) (Header (length bs)) kind_first there.0
+      ∙ (passed (eqb (word 0 bs) 1) Kind (header_questions (case_header_of bs)) on ∙ ap header_questions (sym there.1))
+
+  pub refused_first : (h : CaseHeader) (e : Refusal) → Some h ≡ case_header_in bs → h.kind ≡ 1 → Err e ≡ ask (count_allowed bids h) 7 Count → Err e ≡ bytes_answer bids bs
+  refused_first h e there right no_here =
+      sym (header_questions_left h there right ∙ ap (λ a. and_then a (ask (offset_right h (length bs)) 8 Offset)) (sym no_here))
+
+  pub answered_second : (h : CaseHeader) (a : Result (Unit {0}) Refusal) → Some h ≡ case_header_in bs → h.kind ≡ 1 → Ok tt ≡ ask (count_allowed bids h) 7 Count
+      → a ≡ ask (offset_right h (length bs)) 8 Offset → a ≡ bytes_answer bids bs
+  answered_second h a there right yes_here is =
+      is ∙ sym (header_questions_left h there right ∙ ap (λ a. and_then a (ask (offset_right h (length bs)) 8 Offset)) (sym yes_here))
+
+  pub header_is : (h : CaseHeader) → Some h ≡ case_header_in bs → h ≡ case_header_of bs
+  header_is h e = (case_header_there bs h e).1
 
   -- what a yes on the header says
   pub record HeaderTaken : Type 0 where

@@ -1,3 +1,4 @@
+pub mod Asks
 pub mod Cases
 pub mod Exactly
 pub mod ExactlyProposals

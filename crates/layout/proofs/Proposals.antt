@@ -1,5 +1,5 @@
 -- What the questions on the bytes of a proposal say, and where its sections stand. Assumes nothing.
-use Rattle.std.proofs.Common.{◌≡◌, ℕ, ◌*◌, eqb, leb, List, length, take, drop, ℤ, Ok, Result, sym, ap, ◌∙◌, arith, length-drop, eqb-true}
+use Rattle.std.proofs.Common.{◌≡◌, ℕ, ◌*◌, Bool, true, false, cond, eqb, leb, List, length, take, drop, ℤ, Some, None, Ok, Err, Result, sym, refl, ap, ◌∙◌, arith, length-drop, eq-eqb, ne_eqb, eqb-true}
 use Rattle.std.proofs.lemmas.List.{drop-drop, take_all}
 use Rattle.market.specs.declared.refusal.Refusal.{Refusal}
 use Rattle.market.specs.declared.refusal.Refusal.TheVariants.{Header, Kind, Count, Offset}
@@ -7,9 +7,18 @@ use Rattle.market.specs.First.{and_then, ask, ask_one}
 use Rattle.market.specs.Selections.{Selection}
 use Rattle.records.specs.declared.header.ProposalHeader.{ProposalHeader}
 use Rattle.layout.specs.declared.proposal.Counts.{Counts}
-use Rattle.records.specs.Headers.{proposal_header_of}
+use Rattle.records.specs.Headers.{proposal_header_of, proposal_header_in}
 use Rattle.layout.specs.ProposalBytes.{proposal_answer, proposal_end, prices_offset, activated_offset, flows_offset, count_right, section_right, starts, flows_part, activated_part, prices_part}
 use Rattle.market.proofs.Firsts.{and_then_second, all_from_ask}
+use Rattle.layout.proofs.Asks.{passed, stopped}
+
+-- what the header's words say once they are all there
+pub header_there : (bs : List ℕ) (h : ProposalHeader) → Some h ≡ proposal_header_in bs → (leb 36 (length bs) ≡ true) × (h ≡ proposal_header_of bs)
+header_there bs h e = by (leb 36 (length bs)) refl e
+  where
+    by : (t : Bool) → leb 36 (length bs) ≡ t → Some h ≡ cond t (Some (proposal_header_of bs)) None → (leb 36 (length bs) ≡ true) × (h ≡ proposal_header_of bs)
+    by true is e = (is, cc)
+    by false is e = let z : ◌≡◌ {A = ℕ} 0 1 = cc in absurd (omega arith)
 
 module _ (n : Counts) (levels : ℕ) (bs : List ℕ) where
   abbrev questions : ProposalHeader → Result (Unit {0}) Refusal
@@ -17,6 +26,31 @@ module _ (n : Counts) (levels : ℕ) (bs : List ℕ) where
 
   abbrev kind_first : Result (Unit {0}) Refusal
   kind_first = and_then (ask_one (eqb (proposal_header_of bs).kind 2) Kind) (questions (proposal_header_of bs))
+
+  -- the wrong kind
+  pub refused_kind : (h : ProposalHeader) → Some h ≡ proposal_header_in bs → (h.kind ≡ 2 → ⊥) → Err Kind ≡ proposal_answer n levels bs
+  refused_kind h e wrong =
+      let there = header_there bs h e in
+      let off : eqb (proposal_header_of bs).kind 2 ≡ false = ne_eqb (proposal_header_of bs).kind 2 (λ is. wrong (ap (λ x. x.kind) there.1 ∙ is)) in
+      sym (passed (leb 36 (length bs)) (Header (length bs)) kind_first there.0 ∙ stopped (eqb (proposal_header_of bs).kind 2) Kind (questions (proposal_header_of bs)) off)
+
+  -- with the header there and the kind right, two questions are left
+  pub questions_left : (h : ProposalHeader) → Some h ≡ proposal_header_in bs → h.kind ≡ 2 → proposal_answer n levels bs ≡ questions h
+  questions_left h e right =
+      let there = header_there bs h e in
+      let on : eqb (proposal_header_of bs).kind 2 ≡ true = eq-eqb (proposal_header_of bs).kind 2 (ap (λ x. x.kind) (sym there.1) ∙ right) in
+      passed (leb 36 (length bs)) (Header (length bs)) kind_first there.0
+      ∙ (passed (eqb (proposal_header_of bs).kind 2) Kind (questions (proposal_header_of bs)) on ∙ ap questions (sym there.1))
+
+  pub refused_count : (h : ProposalHeader) (e : Refusal) → Some h ≡ proposal_header_in bs → h.kind ≡ 2 → Err e ≡ ask (count_right n levels h) 9 Count
+      → Err e ≡ proposal_answer n levels bs
+  refused_count h e there right no_here =
+      sym (questions_left h there right ∙ ap (λ a. and_then a (ask (section_right (starts n levels) h (length bs)) 10 Offset)) (sym no_here))
+
+  pub answered : (h : ProposalHeader) (r : Result (Unit {0}) Refusal) → Some h ≡ proposal_header_in bs → h.kind ≡ 2 → Ok tt ≡ ask (count_right n levels h) 9 Count
+      → r ≡ ask (section_right (starts n levels) h (length bs)) 10 Offset → r ≡ proposal_answer n levels bs
+  answered h r there right yes_here is =
+      is ∙ sym (questions_left h there right ∙ ap (λ a. and_then a (ask (section_right (starts n levels) h (length bs)) 10 Offset)) (sym yes_here))
 
   -- bytes that are taken end where the last section does
   pub taken_length : proposal_answer n levels bs ≡ Ok tt → length bs ≡ proposal_end n levels

@@ -14,8 +14,14 @@ unsatisfied d s x y fits_d fits_s is_d is_s = omega (arith, ints)
 pub exported : (a : Activated) (s y : ℤ) → SFits w32 s → y ≡ to_z w32 (of_z w32 s) → to_z w64 (of_z w64 (to_z w64 (of_z w64 (to_z w64 a.up -ℤ to_z w64 a.down)) -ℤ to_z w64 (of_z w64 y))) ≡ (pos a.up -ℤ pos a.down) -ℤ s
 exported a s y fits is = let small = a.small in omega (arith, ints)
 
-fits_net : (m n : ℕ) → m < 2 ^ 62 → n < 2 ^ 62 → SFits w64 (pos m -ℤ pos n)
+pub fits_unsatisfied : (x y : ℤ) → SFits w32 x → SFits w32 y → SFits w64 (x -ℤ y)
+fits_unsatisfied x y f g = omega (arith, ints)
+
+pub fits_net : (m n : ℕ) → m < 2 ^ 62 → n < 2 ^ 62 → SFits w64 (pos m -ℤ pos n)
 fits_net m n f g = omega (arith, ints)
+
+pub fits_export : (m n : ℕ) (y : ℤ) → m < 2 ^ 62 → n < 2 ^ 62 → SFits w32 y → SFits w64 ((pos m -ℤ pos n) -ℤ y)
+fits_export m n y f g h = omega (arith, ints)
 
 net_is : (m n : ℕ) → m < 2 ^ 62 → n < 2 ^ 62 → to_z w64 (of_z w64 (to_z w64 m -ℤ to_z w64 n)) ≡ pos m -ℤ pos n
 net_is m n f g = omega (arith, ints)

@@ -1,15 +1,31 @@
 -- The steps of the loops that sum over bids and their amounts. Assumes nothing.
 --
+--   both_more, both_all      a function of what is left of two lists, one step on and at the end
+--   more, at_end            a sum of numbers, one step on and at the end
 --   counted_all             the amounts of an area, at the end
 --   payable_first           the first bid can be paid for, and so can the others
 --   cost_fits, cost_more    the cost so far and one more payment
-use Rattle.std.proofs.Common.{◌≡◌, ℕ, suc, ◌+◌, ◌-◌, ◌*◌, ◌≤◌, T, List, [], ◌∷◌, length, ◌⊎◌, inl, inr, ℤ, pos, ◌+ℤ◌, neg_ℤ, ◌≤ℤ◌, refl, ap, ◌∙◌, subst, arith, w64, SFits, to_z, of_z}
+--   cost_end                the cost at the end
+use Rattle.std.proofs.Common.{◌≡◌, ℕ, suc, ◌+◌, ◌-◌, ◌*◌, ◌<◌, ◌≤◌, T, List, [], ◌∷◌, length, get_or, drop, ◌⊎◌, inl, inr, ℤ, pos, ◌+ℤ◌, neg_ℤ, ◌≤ℤ◌, refl, ap, ◌∙◌, subst, arith, w64, SFits, to_z, of_z}
+use Rattle.std.proofs.lemmas.List.{drop_more, drop_all}
 use Rattle.std.proofs.lemmas.Int.{ints, to_z-of_z}
 use Rattle.market.specs.declared.trade.Bid.{Bid}
 use Rattle.market.specs.declared.trade.Direction.{Direction}
 use Rattle.market.specs.Cases.{bid_in_range}
 use Rattle.listing.specs.Figures.{sum_in, payment, payments}
 use Rattle.listing.specs.Payable.{Payable}
+
+pub both_more : {Y : Type 0} (F : List Bid → List ℕ → Y) (bs : List Bid) (xs : List ℕ) (k : ℕ) (d : Bid) → k < length bs → length xs ≡ length bs → F (drop k bs) (drop k xs) ≡ F (get_or bs k d ∷ drop (k + 1) bs) (get_or xs k 0 ∷ drop (k + 1) xs)
+both_more F bs xs k d h e = λ i. F (drop_more bs k d h i) (drop_more xs k 0 (omega arith) i)
+
+pub both_all : {Y : Type 0} (F : List Bid → List ℕ → Y) (bs : List Bid) (xs : List ℕ) (k : ℕ) → length bs ≤ k → length xs ≡ length bs → F (drop k bs) (drop k xs) ≡ F [] []
+both_all F bs xs k h e = λ i. F (drop_all k bs h i) (drop_all k xs (omega arith) i)
+
+pub more : (s x y rest before whole : ℕ) → s + before ≡ whole → x ≡ y → before ≡ y + rest → s + x + rest ≡ whole
+more s x y rest before whole e f g = omega arith
+
+pub at_end : (s before whole : ℕ) → s + before ≡ whole → before ≡ 0 → s ≡ whole
+at_end s before whole e f = omega arith
 
 module _ (f : Direction → ℕ → ℕ) (area : ℕ) {bs : List Bid} {xs : List ℕ} where
   none_left : (bs ≡ []) ⊎ (xs ≡ []) → sum_in f area bs xs ≡ 0
@@ -52,3 +68,6 @@ module _ {bs cs : List Bid} {xs ys : List ℕ} (a p : ℤ) (b : Bid) (x : ℕ) (
       let left = ap length next.0 in
       let step : payments bs xs ≡ payment b.direction b.price x +ℤ payments cs ys = λ i. payments (next.0 i) (next.1 i) in
       (omega (arith, ints), omega (arith, ints), omega (arith, ints))
+
+pub cost_end : (a before whole : ℤ) → a +ℤ before ≡ whole → before ≡ pos 0 → a ≡ whole
+cost_end a before whole e f = omega (arith, ints)

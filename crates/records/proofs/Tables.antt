@@ -1,10 +1,18 @@
 -- Tables of records: how one grows, and what stands at a place. Assumes nothing.
-use Rattle.std.proofs.Common.{◌≡◌, ℕ, zero, suc, ◌+◌, ◌-◌, ◌*◌, ◌/◌, ◌<◌, ◌≤◌, cond, List, [], ◌∷◌, ◌++◌, length, get_or, take, drop, ℤ, Some, None, Option, unwrap_or, sym, refl, ap, ◌∙◌, add_comm, append_assoc, mul-zero, mul-suc, add-one, arith, length-append, length-drop, w32, SFits, to_z, of_z, le-ltb, lt-ltb}
-use native.Mathlib.Nat.{div-eq-sub-div, div-eq_of_lt, mul-div_cancel_left}
+use Rattle.std.proofs.Common.{◌≡◌, ℕ, zero, suc, ◌+◌, ◌-◌, ◌*◌, ◌/◌, ◌%◌, ◌<◌, ◌≤◌, cond, leb, List, [], ◌∷◌, ◌++◌, length, get_or, take, drop, ℤ, Some, None, Option, unwrap_or, sym, refl, ap, ◌∙◌, add_comm, append_assoc, mul-le-mul_left, mul-zero, mul-suc, add-one, arith, length-append, length-drop, w32, SFits, to_z, of_z, le-ltb, lt-ltb, le-leb}
+use native.Mathlib.Nat.{div-add-mod, div-eq-sub-div, div-eq_of_lt, mul-div_cancel_left}
 use native.Mathlib.Decide.{dec_lt}
-use Rattle.std.proofs.lemmas.List.{drop-drop, drop-take, take-take, length-take-le}
+use Rattle.std.proofs.lemmas.List.{drop-drop, drop-take, take-take, take_rest, length-take-le}
 use Rattle.std.proofs.lemmas.Int.{to_z-of_z}
 use Rattle.records.specs.Bytes.{part, table, records, record_at}
+
+-- a record at a place of n / s lies within n bytes
+pub within : (n s k : ℕ) → k < n / s → s * k + s ≤ n
+within n s k h =
+    let m : s * suc k ≤ s * (n / s) = mul-le-mul_left s h in
+    let e : s * (n / s) + n % s ≡ n = div-add-mod n s in
+    let f : s * suc k ≡ s * k + s = mul-suc s k in
+    omega arith
 
 module _ {X : Type 0} (f : List ℕ → X) (s : ℕ) where
   pub part_later : (k : ℕ) (bs : List ℕ) → part (s * k) s (drop s bs) ≡ part (s * suc k) s bs
@@ -58,6 +66,19 @@ module _ {X : Type 0} (f : List ℕ → X) (s : ℕ) where
     | yes h ↦ ap (λ o. unwrap_or o d) (record_at_within bs k h) ∙ sym (getD_table (length bs / s) k bs d h)
     | no h ↦ ap (λ o. unwrap_or o d) (record_at_past bs k (omega arith)) ∙ sym (getD_table_past (length bs / s) k bs d (omega arith))
   ]
+
+  -- the first record of what stands from a place on is the record at that place
+  pub record_at_first : (bs : List ℕ) (k size : ℕ) (r : Option X) → size ≡ s → k < length bs / size
+      → r ≡ cond (leb s (length (take (length bs - size * k) (drop (size * k) bs)))) (Some (f (take s (take (length bs - size * k) (drop (size * k) bs))))) None
+      → r ≡ record_at f s bs k
+  record_at_first bs k size r e h is =
+      let inside : s * k + s ≤ length bs = within (length bs) s k (rw e at h) in
+      let long : s ≤ length (drop (s * k) bs) = rw length-drop (omega arith) in
+      is
+      ∙ (ap (λ z. cond (leb s (length (take (length bs - z * k) (drop (z * k) bs)))) (Some (f (take s (take (length bs - z * k) (drop (z * k) bs))))) None) e
+      ∙ (ap (λ q. cond (leb s (length q)) (Some (f (take s q))) None) (take_rest bs (s * k))
+      ∙ (ap (λ t. cond t (Some (f (part (s * k) s bs))) None) (le-leb s (length (drop (s * k) bs)) long)
+      ∙ sym (record_at_within bs k (rw e at h)))))
 
   -- what a reader answers, from what its calls answer
   pub read : (bs q : List ℕ) (k : ℕ) (o : Option X) (d r : X) → q ≡ bs → o ≡ record_at f s q k → r ≡ unwrap_or o d → r ≡ get_or (records f s bs) k d

@@ -11,6 +11,9 @@ use Rattle.layout.proofs.Proposals.{selection_from}
 use Rattle.layout.proofs.RoundTrips.{length_each}
 use Rattle.writing.proofs.Placed.{ended, Begun, put_behind}
 
+pub case_same : (ds es : List ℤ) (bs cs : List Border) (os ps : List Bid) → ds ≡ es → bs ≡ cs → os ≡ ps → case_of ds bs os ≡ case_of es cs ps
+case_same ds es bs cs os ps d b o = ap (λ x. case_of x bs os) d ∙ (ap (λ x. case_of es x os) b ∙ ap (case_of es cs) o)
+
 -- where a case fits, it is written, and the rest of the buffer stays
 module _ (ds : List ℤ) (bs : List Border) (os : List Bid) (out o1 p2 p3 p4 : List ℕ) where
   abbrev borders_at : ℕ

@@ -1,2 +1,3 @@
 mod Buffers
+mod Numbers
 mod Placed
