@@ -1,5 +1,5 @@
 -- What is taken is unbeaten, and so is what C is told to be taken. Assumes nothing.
-use Rattle.std.proofs.Common.{◌≡◌, ℕ, List, Ok, Err, Result, IfOk, OnOk, arith}
+use Rattle.std.proofs.Common.{◌≡◌, ℕ, List, Ok, Err, Result, IfOk, OnOk, ap, ◌∙◌, inl, inr, arith}
 use Rattle.scale.specs.Meaning.{Meaning, Laws}
 use Rattle.market.specs.declared.refusal.Refusal.{Refusal}
 use Rattle.market.specs.declared.refusal.Refusal.TheVariants.{Header, Kind, Count, Offset, Demand, Ends, Limits, Origin, Offer, Satisfied, Flow, Activated, Balance, Price, DemandFit, BorderFit, BidFit, Unknown, NothingStands, Room}
@@ -11,8 +11,9 @@ use Rattle.cycle.specs.Calls.{load_answer, submit_answer}
 use Rattle.cycle.proofs.Submitted.{submit_unbeaten}
 use Rattle.foldureem.specs.declared.failure.Failure.{Failure}
 use Rattle.foldureem.specs.declared.failure.Failure.TheVariants.{OutOfMemory, Refused}
-use Rattle.foldureem.specs.Verdicts.{judged_answer, NothingBeats}
-use Rattle.foldureem.specs.Told.{told_if}
+use Rattle.foldureem.specs.Verdicts.{scale_for, judged_answer, answer_for, buffer_after, IfMade, if_made, NothingBeats}
+use Rattle.foldureem.specs.Told.{told, told_if, Answered}
+use Rattle.foldureem.specs.declared.told.FoldureemVerdict.{FoldureemVerdict}
 
 pub made_always : {X Y P : Type 0} (r : Result X Y) → P → IfOk r (λ _. P)
 made_always (Ok x) p = p
@@ -52,3 +53,10 @@ pub told_taken : {P : Type 0} (r : Result ℕ Failure) → OnOk r P → (told_if
 told_taken (Ok length) p e = p
 told_taken (Err (Refused refusal)) p e = absurd (numbered refusal e)
 told_taken (Err OutOfMemory) p e = absurd (omega arith)
+
+pub answered_told : (case proposal before after : List ℕ) (r : Result ℕ Failure) (v : FoldureemVerdict) → v ≡ told_if r
+    → IfMade r (λ a. a ≡ answer_for (scale_for proposal) case proposal before) → after ≡ if_made r (buffer_after (scale_for proposal) case proposal before) before
+    → Answered case proposal before v after
+answered_told case proposal before after (Ok length) v e f g = inl (e ∙ ap told f, g)
+answered_told case proposal before after (Err (Refused refusal)) v e f g = inl (e ∙ ap told f, g)
+answered_told case proposal before after (Err OutOfMemory) v e f g = inr (e, g)

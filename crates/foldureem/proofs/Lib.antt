@@ -1,3 +1,4 @@
 mod Best
+mod Judged
 mod Released
 mod Pairs

@@ -68,6 +68,19 @@ replaying_more m calls answers later i st st' d a low answered moved pushed inv 
     }
 
 -- after all calls
+pub record Replayed (m : Meaning) (calls : List Call) (answers : List Answer) (st : State) : Type 0 where
+  pub one_for_each : length answers ≡ length calls
+  pub state : st ≡ state_after (history_of [] calls answers)
+  pub kept : Kept m (history_of [] calls answers)
+
+pub replayed : (m : Meaning) → Laws m → (calls : List Call) (answers : List Answer) (i : ℕ) (st : State) → i ≡ length calls → Replaying m calls answers i st → Replayed m calls answers st
+replayed m laws calls answers i st e inv =
+    let all : take i calls ≡ calls = take_all i calls (omega arith) in
+    record {
+      one_for_each = inv.counted ∙ e;
+      state = inv.state ∙ ap (λ (cs : List Call). state_after (history_of [] cs answers)) all;
+      kept = subst (λ (cs : List Call). Kept m (history_of [] cs answers)) all (kept_from_lawful m laws (history_of [] (take i calls) answers) inv.lawful);
+    }
+
 pub replaying_all : (m : Meaning) → Laws m → (calls : List Call) (answers : List Answer) (i : ℕ) (st : State) → i ≡ length calls → Replaying m calls answers i st → Kept m (history_of [] calls answers)
-replaying_all m laws calls answers i st e inv =
-    subst (λ (cs : List Call). Kept m (history_of [] cs answers)) (take_all i calls (omega arith)) (kept_from_lawful m laws (history_of [] (take i calls) answers) inv.lawful)
+replaying_all m laws calls answers i st e inv = (replayed m laws calls answers i st e inv).kept

@@ -1,7 +1,7 @@
--- One test in front of the rest, and what a `?` leaves. Assumes nothing.
-use Rattle.std.proofs.Common.{◌≡◌, Bool, true, false, IfOk, Err, Result, sym, refl, subst}
+-- One test in front of the rest, a question that finds no place, and what a `?` leaves. Assumes nothing.
+use Rattle.std.proofs.Common.{◌≡◌, ℕ, Bool, true, false, IfOk, Some, None, Ok, Err, Option, Result, sym, refl, subst}
 use Rattle.market.specs.declared.refusal.Refusal.{Refusal}
-use Rattle.market.specs.First.{and_then, ask_one}
+use Rattle.market.specs.First.{and_then, ask_one, refused_at}
 use Rattle.layout.specs.Sections.{forget}
 
 module _ {E : Type 0} where
@@ -12,6 +12,10 @@ module _ {E : Type 0} where
   pub stopped : (t : Bool) (e : E) (rest : Result (Unit {0}) E) → t ≡ false → and_then (ask_one t e) rest ≡ Err e
   stopped true e rest h = cc
   stopped false e rest h = refl
+
+  refused_at_none : (refusal : ℕ → E) (o : Option ℕ) → refused_at refusal o ≡ Ok tt → o ≡ None
+  refused_at_none refusal None h = refl
+  refused_at_none refusal (Some i) h = cc
 
 -- the exit of a `?`: the answer is the refusal, and nothing was made
 pub residual : {X : Type 0} (P : X → Type 0) (r : Result X Refusal) (e : Refusal) (a : Result (Unit {0}) Refusal) → r ≡ Err e → Err e ≡ a → (forget r ≡ a) × IfOk r P

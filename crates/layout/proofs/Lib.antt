@@ -4,5 +4,6 @@ pub mod Exactly
 pub mod ExactlyProposals
 pub mod Numbers
 pub mod Orders
+pub mod Prices
 pub mod Proposals
 pub mod RoundTrips

@@ -85,3 +85,12 @@ worth b x m n h le is_price is_amount =
     let price = price_small b h in
     let small = small_product b.price x price le in
     record { is = product b.price x m n price le is_price is_amount; least = small.least; most = small.most }
+
+-- a result is a payment within its bounds
+pub record Paid (r z : ℤ) : Type 0 where
+  pub value : r ≡ z
+  pub least : neg_ℤ (pos 99989000100000) ≤ℤ r
+  pub most : r ≤ℤ pos 99989000100000
+
+pub paid : (r z y : ℤ) → r ≡ y → y ≡ z → Small 99989000100000 y → Paid r z
+paid r z y e f h = record { value = e ∙ f; least = omega (arith, ints); most = omega (arith, ints) }

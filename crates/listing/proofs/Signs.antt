@@ -1,12 +1,20 @@
 -- What the machine's signed numbers are. Assumes nothing.
 --
+--   widened       a number of 32 bits in 64
+--   difference    of two numbers, where it fits
 --   unsatisfied   demand minus satisfied
 --   exported      up minus down minus satisfied
 --   halved        half of a difference
 use Rattle.std.proofs.Common.{◌≡◌, ℕ, suc, ◌/◌, ◌^◌, ◌<◌, ℤ, pos, negsuc, ◌-ℤ◌, neg_ℤ, ap, ◌∙◌, arith, w32, w64, SFits, to_z, of_z}
 use lib.Signed.{quot_z}
-use Rattle.std.proofs.lemmas.Int.{ints, to_z-of_z}
+use Rattle.std.proofs.lemmas.Int.{ints, to_z-of_z, to_z_pos}
 use Rattle.listing.specs.declared.sums.Activated.{Activated}
+
+pub widened : (x z : ℤ) → SFits w32 z → x ≡ to_z w32 (of_z w32 z) → to_z w64 (of_z w64 x) ≡ z
+widened x z fits e = omega (arith, ints)
+
+pub difference : (a b x y : ℤ) → a ≡ x → b ≡ y → SFits w64 (x -ℤ y) → to_z w64 (of_z w64 (a -ℤ b)) ≡ x -ℤ y
+difference a b x y p q fits = ap (λ z. to_z w64 (of_z w64 z)) (λ i. p i -ℤ q i) ∙ to_z-of_z w64 (x -ℤ y) fits
 
 pub unsatisfied : (d s x y : ℤ) → SFits w32 d → SFits w32 s → x ≡ to_z w32 (of_z w32 d) → y ≡ to_z w32 (of_z w32 s) → to_z w64 (of_z w64 (to_z w64 (of_z w64 x) -ℤ to_z w64 (of_z w64 y))) ≡ d -ℤ s
 unsatisfied d s x y fits_d fits_s is_d is_s = omega (arith, ints)
@@ -22,6 +30,9 @@ fits_net m n f g = omega (arith, ints)
 
 pub fits_export : (m n : ℕ) (y : ℤ) → m < 2 ^ 62 → n < 2 ^ 62 → SFits w32 y → SFits w64 ((pos m -ℤ pos n) -ℤ y)
 fits_export m n y f g h = omega (arith, ints)
+
+pub as_signed : (n : ℕ) → n < 2 ^ 62 → to_z w64 n ≡ pos n
+as_signed n h = to_z_pos w64 n (omega arith)
 
 net_is : (m n : ℕ) → m < 2 ^ 62 → n < 2 ^ 62 → to_z w64 (of_z w64 (to_z w64 m -ℤ to_z w64 n)) ≡ pos m -ℤ pos n
 net_is m n f g = omega (arith, ints)

@@ -4,8 +4,9 @@
 --   more, at_end            a sum of numbers, one step on and at the end
 --   counted_all             the amounts of an area, at the end
 --   payable_first           the first bid can be paid for, and so can the others
---   cost_fits, cost_more    the cost so far and one more payment
---   cost_end                the cost at the end
+--   sum_fits, sum_more      a cost so far and one more payment
+--   cost_fits, cost_more    the same for the bids in hand
+--   cost_end                at the end
 use Rattle.std.proofs.Common.{◌≡◌, ℕ, suc, ◌+◌, ◌-◌, ◌*◌, ◌<◌, ◌≤◌, T, List, [], ◌∷◌, length, get_or, drop, ◌⊎◌, inl, inr, ℤ, pos, ◌+ℤ◌, neg_ℤ, ◌≤ℤ◌, refl, ap, ◌∙◌, subst, arith, w64, SFits, to_z, of_z}
 use Rattle.std.proofs.lemmas.List.{drop_more, drop_all}
 use Rattle.std.proofs.lemmas.Int.{ints, to_z-of_z}
@@ -52,6 +53,16 @@ payable_first {bs} {cs} {xs} {ys} b x h next =
           volumes = λ k h. p.volumes (suc k) (omega arith);
         },
       )
+
+pub sum_fits : (a p : ℤ) (k : ℕ) → k < 1024 → neg_ℤ (pos (99989000100000 * k)) ≤ℤ a → a ≤ℤ pos (99989000100000 * k) → neg_ℤ (pos 99989000100000) ≤ℤ p → p ≤ℤ pos 99989000100000 → to_z w64 (of_z w64 (a +ℤ to_z w64 (of_z w64 p))) ≡ a +ℤ p
+sum_fits a p k few least most low high =
+    let one : SFits w64 p = omega (arith, ints) in
+    let both : SFits w64 (a +ℤ p) = omega (arith, ints) in
+    ap (λ z. to_z w64 (of_z w64 (a +ℤ z))) (to_z-of_z w64 p one) ∙ to_z-of_z w64 (a +ℤ p) both
+
+pub sum_more : (a p q z rest before whole : ℤ) (k : ℕ) → z ≡ a +ℤ p → a +ℤ before ≡ whole → p ≡ q → before ≡ q +ℤ rest → neg_ℤ (pos (99989000100000 * k)) ≤ℤ a → a ≤ℤ pos (99989000100000 * k) → neg_ℤ (pos 99989000100000) ≤ℤ p → p ≤ℤ pos 99989000100000
+    → (z +ℤ rest ≡ whole) × (neg_ℤ (pos (99989000100000 * (k + 1))) ≤ℤ z) × (z ≤ℤ pos (99989000100000 * (k + 1)))
+sum_more a p q z rest before whole k e f g h least most low high = (omega (arith, ints), omega (arith, ints), omega (arith, ints))
 
 module _ {bs cs : List Bid} {xs ys : List ℕ} (a p : ℤ) (b : Bid) (x : ℕ) (next : (bs ≡ b ∷ cs) × (xs ≡ x ∷ ys)) (few : length bs ≤ 1024)
     (least : neg_ℤ (pos (99989000100000 * (1024 - length bs))) ≤ℤ a) (most : a ≤ℤ pos (99989000100000 * (1024 - length bs)))

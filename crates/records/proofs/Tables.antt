@@ -84,6 +84,18 @@ module _ {X : Type 0} (f : List ℕ → X) (s : ℕ) where
   pub read : (bs q : List ℕ) (k : ℕ) (o : Option X) (d r : X) → q ≡ bs → o ≡ record_at f s q k → r ≡ unwrap_or o d → r ≡ get_or (records f s bs) k d
   read bs q k o d r e is out = out ∙ (ap (λ x. unwrap_or x d) (is ∙ ap (λ x. record_at f s x k) e) ∙ valueOr_record_at bs k d)
 
+  -- one record more
+  pub table_next : (bs : List ℕ) (items later : List X) (n k m : ℕ) (x : X) → items ≡ table f s n bs → k ≡ n → Some x ≡ record_at f s bs k → later ≡ items ++ (x ∷ []) → m ≡ n + 1
+      → (later ≡ table f s m bs) × (m ≤ length bs / s)
+  table_next bs items later n k m x e at is more up = elim (dec_lt n (length bs / s)) [
+    | yes h ↦ (
+      let same : x ≡ f (part (s * n) s bs) = cc (record_at_within bs n h, ap (record_at f s bs) at) in
+          more ∙ (ap (λ l. l ++ (x ∷ [])) e ∙ (ap (λ y. table f s n bs ++ (y ∷ [])) same ∙ (sym (table_push n bs) ∙ ap (λ k. table f s k bs) (sym (up ∙ add-one n))))),
+      omega arith,
+    )
+    | no h ↦ let z : ◌≡◌ {A = ℕ} 0 1 = cc (record_at_past bs n (omega arith), ap (record_at f s bs) at) in absurd (omega arith)
+  ]
+
   -- the records of bytes that begin with a whole one, and of bytes that do not
   pub records_more : (bs : List ℕ) → 0 < s → s ≤ length bs → records f s bs ≡ f (take s bs) ∷ records f s (drop s bs)
   records_more bs positive fits =

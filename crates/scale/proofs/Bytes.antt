@@ -4,6 +4,7 @@
 --   numbers_append   the numbers in bytes are those in the front, then those in the rest
 --   read_is          what is read where the levels are at most 16
 --   pair_reads       what a pair reads, from what its parts read
+--   told             what a call read, once `?` has told which way it went
 --   zip_worths       what two answers together stand for
 --   eight            eight bytes, as `from_le_bytes` adds them
 use Rattle.std.proofs.Common.{◌≡◌, ℕ, zero, suc, ◌+◌, ◌*◌, ◌≤◌, min, Bool, true, false, cond, ◌&&◌, eqb, leb, List, [], ◌∷◌, ◌++◌, length, take, drop, Some, None, Option, sym, refl, ap, ◌∙◌, zero-add, arith, w64, to_z}
@@ -76,7 +77,7 @@ module _ (a b : Meaning) (bs : List ℕ) (few : a.levels + b.levels ≤ 16) (roo
       let l = length-take-le (8 * a.levels) bs room in
       grind (arith, nat_tests)
 
-  reads : read_bytes (pair a b) bs ≡ option_zip (read_bytes a (take (8 * a.levels) bs)) (read_bytes b (drop (8 * a.levels) bs))
+  pub reads : read_bytes (pair a b) bs ≡ option_zip (read_bytes a (take (8 * a.levels) bs)) (read_bytes b (drop (8 * a.levels) bs))
   reads =
       let x = a.value (numbers a.levels (take (8 * a.levels) bs)) in
       let y = b.value (numbers b.levels (drop (8 * a.levels) bs)) in
@@ -95,6 +96,10 @@ pair_reads a b n m bs front back e f few split =
     let front_is : take (8 * a.levels) bs ≡ front = (λ i. take (8 * sym e i) bs) ∙ sym split.1 in
     let back_is : drop (8 * a.levels) bs ≡ back = (λ i. drop (8 * sym e i) bs) ∙ sym split.2 in
     reads a b bs few' room ∙ (λ i. option_zip (read_bytes a (front_is i)) (read_bytes b (back_is i)))
+
+-- what a call read, once `?` has told which way it went
+pub told : {K X Y : Type 0} (way : K → Option X) (worth : X → Y) (r : Option X) (f g : K) (v : Option Y) → r ≡ way f → f ≡ g → option_map worth r ≡ v → option_map worth (way g) ≡ v
+told way worth r f g v e is h = sym (ap (option_map worth) (e ∙ ap way is)) ∙ h
 
 pub zip_worths : {X Y V W : Type 0} (f : X → V) (g : Y → W) (x : Option X) (y : Option Y) → option_map (λ p. (f p.0, g p.1)) (option_zip x y) ≡ option_zip (option_map f x) (option_map g y)
 zip_worths f g None y = refl
