@@ -34,8 +34,9 @@ few_held c p few_areas few_borders few_bids counts =
     (and_from _ _ (le-leb _ _ (subst (λ (n : ℕ). n ≤ 128) (sym counts.flows_count ∙ lb) few_borders))
     (le-leb _ _ (subst (λ (n : ℕ). n ≤ 1024) (sym counts.activated_count ∙ lo) few_bids)))
 
--- what a taken submit gives: the selection in the proposal is the one in the bytes, it is within the limits, and its amounts are few where the case's records are
+-- what a taken submit gives: its answer, the selection in the proposal is the one in the bytes, it is within the limits, and its amounts are few where the case's records are
 pub record Taken (m : Meaning) (c : Case) (bs : List ℕ) (p : Proposal) : Type 0 where
+  pub answer : Ok tt ≡ submit_answer m c bs
   pub same : selection_held p ≡ proposed c bs
   pub counts : OneForEach c (selection_held p)
   pub enough : length c.demands ≤ 48 → length c.borders ≤ 128 → length c.bids ≤ 1024 → few p ≡ true
@@ -97,6 +98,7 @@ module _ (m : Meaning) (c : Case) (bs : List ℕ) (p : Proposal) where
     submit_taken e =
         let counts : OneForEach c (selection_held p) = counted read_here holds_here in
         record {
+          answer = submit_answered (Ok tt) e;
           same = selection_same holds_here;
           counts = counts;
           enough = λ few_areas few_borders few_bids. few_held c p few_areas few_borders few_bids counts;

@@ -76,10 +76,10 @@ valid_in_force m (step ∷ earlier) (rule, lawful) =
     valid_if (taken step.answer) (made_of step.call (in_force earlier)) (in_force earlier)
     (λ t. made_valid m (record { case = in_force earlier; standing = standing earlier }) step.call before (ap taken (sym rule) ∙ t)) before
 
--- what stands is unbeaten
 none_some : {X : Type 0} {Y : Type 0} (s : X) → ◌≡◌ {A = Option X} None (Some s) → Y
 none_some s e = absurd (let z : ◌≡◌ {A = ℕ} 0 1 = cc in omega arith)
 
+-- what stands is unbeaten
 abbrev Best : Meaning → Case → Option Selection → Type 0
 Best m c o = (s : Selection) → o ≡ Some s → Unbeaten m c s
 

@@ -1,5 +1,6 @@
 mod Both
 pub mod Chains
+pub mod Digits
 pub mod Grown
 pub mod Pairs
 pub mod Prices
@@ -8,3 +9,4 @@ pub mod Signs
 pub mod Standing
 pub mod Steps
 pub mod Whole
+pub mod Worked

@@ -1,6 +1,6 @@
 -- The steps of the loops that sum over bids and their amounts. Assumes nothing.
 --
---   both_more, both_all      a function of what is left of two lists, one step on and at the end
+--   both_more, both_all     a function of what is left of two lists, one step on and at the end
 --   more, at_end            a sum of numbers, one step on and at the end
 --   counted_all             the amounts of an area, at the end
 --   payable_first           the first bid can be paid for, and so can the others
@@ -68,10 +68,7 @@ module _ {bs cs : List Bid} {xs ys : List ℕ} (a p : ℤ) (b : Bid) (x : ℕ) (
     (least : neg_ℤ (pos (99989000100000 * (1024 - length bs))) ≤ℤ a) (most : a ≤ℤ pos (99989000100000 * (1024 - length bs)))
     (low : neg_ℤ (pos 99989000100000) ≤ℤ p) (high : p ≤ℤ pos 99989000100000) where
   pub cost_fits : to_z w64 (of_z w64 (a +ℤ to_z w64 (of_z w64 p))) ≡ a +ℤ p
-  cost_fits =
-      let one : SFits w64 p = omega (arith, ints) in
-      let both : SFits w64 (a +ℤ p) = omega (arith, ints, ap length next.0) in
-      ap (λ z. to_z w64 (of_z w64 (a +ℤ z))) (to_z-of_z w64 p one) ∙ to_z-of_z w64 (a +ℤ p) both
+  cost_fits = sum_fits a p (1024 - length bs) (omega (arith, ap length next.0)) least most low high
 
   pub cost_more : (z whole : ℤ) → z ≡ a +ℤ p → p ≡ payment b.direction b.price x → a +ℤ payments bs xs ≡ whole
       → (z +ℤ payments cs ys ≡ whole) × (neg_ℤ (pos (99989000100000 * (1024 - length cs))) ≤ℤ z) × (z ≤ℤ pos (99989000100000 * (1024 - length cs)))

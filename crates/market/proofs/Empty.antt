@@ -1,5 +1,7 @@
 -- The case with no records is valid. Assumes nothing.
-use Rattle.std.proofs.Common.{[], zero-le}
+use Rattle.std.proofs.Common.{◌≡◌, List, [], ℤ, sym, subst, zero-le}
+use Rattle.market.specs.declared.trade.Border.{Border}
+use Rattle.market.specs.declared.trade.Bid.{Bid}
 use Rattle.market.specs.Cases.{Valid, case_of}
 
 pub valid_none : Valid (case_of [] [] [])
@@ -13,3 +15,9 @@ valid_none = record {
   bids_known = tt;
   bids_in_range = tt;
 }
+
+pub valid_empty : (ds : List ℤ) (bs : List Border) (os : List Bid) → ds ≡ [] → bs ≡ [] → os ≡ [] → Valid (case_of ds bs os)
+valid_empty ds bs os d b o =
+    subst (λ (x : List ℤ). Valid (case_of x bs os)) (sym d)
+    (subst (λ (x : List Border). Valid (case_of [] x os)) (sym b)
+    (subst (λ (x : List Bid). Valid (case_of [] [] x)) (sym o) valid_none))

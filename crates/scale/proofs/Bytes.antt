@@ -3,7 +3,9 @@
 --   length_numbers   n numbers are n
 --   numbers_append   the numbers in bytes are those in the front, then those in the rest
 --   read_is          what is read where the levels are at most 16
---   pair_reads       what a pair reads, from what its parts read
+--   reads            what a pair reads, from what its parts read at the front and behind
+--   parts_read       the same of a front of n levels and the rest; none_first, none_second and some_both by the answers of the parts
+--   pair_reads       the same of bytes that are split there
 --   told             what a call read, once `?` has told which way it went
 --   zip_worths       what two answers together stand for
 --   eight            eight bytes, as `from_le_bytes` adds them
@@ -50,6 +52,10 @@ read_is m bs h =
     let count : eqb (length (numbers m.levels bs)) m.levels ≡ true = grind (arith, nat_tests) in
     tidy (eqb (length bs) (8 * m.levels)) (leb m.levels 16) (eqb (length (numbers m.levels bs)) m.levels) (m.in_range (m.value (numbers m.levels bs))) (Some (m.value (numbers m.levels bs))) few count
 
+no_second : {X Y : Type 0} (x : Option X) → None ≡ option_zip {T = X} {U = Y} x None
+no_second None = refl
+no_second (Some x) = refl
+
 joined : {X Y : Type 0} (long first second : Bool) (x : X) (y : Y) → cond (long && (first && second)) (Some (x, y)) None ≡ option_zip (cond first (Some x) None) (cond (long && second) (Some y) None)
 joined true true true x y = refl
 joined true true false x y = refl
@@ -88,14 +94,28 @@ module _ (a b : Meaning) (bs : List ℕ) (few : a.levels + b.levels ≤ 16) (roo
       ∙ joined (eqb (length (drop (8 * a.levels) bs)) (8 * b.levels)) (a.in_range x) (b.in_range y) x y
       ∙ (λ i. option_zip (sym of_a i) (sym of_b i))
 
+-- what a pair reads, by what its parts read from a front of n levels and the rest
+module _ (a b : Meaning) (n m : ℕ) (bs front back : List ℕ) (e : n ≡ a.levels) (f : m ≡ b.levels) (few : n + m ≤ 16) (room : 8 * n ≤ length bs) (is_front : front ≡ take (8 * n) bs) (is_back : back ≡ drop (8 * n) bs) where
+  parts_read : read_bytes (pair a b) bs ≡ option_zip (read_bytes a front) (read_bytes b back)
+  parts_read =
+      let few' : a.levels + b.levels ≤ 16 = omega arith in
+      let room' : 8 * a.levels ≤ length bs = omega arith in
+      let front_is : take (8 * a.levels) bs ≡ front = (λ i. take (8 * sym e i) bs) ∙ sym is_front in
+      let back_is : drop (8 * a.levels) bs ≡ back = (λ i. drop (8 * sym e i) bs) ∙ sym is_back in
+      reads a b bs few' room' ∙ (λ i. option_zip (read_bytes a (front_is i)) (read_bytes b (back_is i)))
+
+  pub none_first : None ≡ read_bytes a front → None ≡ read_bytes (pair a b) bs
+  none_first h = sym (parts_read ∙ ap (λ x. option_zip x (read_bytes b back)) (sym h))
+
+  pub none_second : None ≡ read_bytes b back → None ≡ read_bytes (pair a b) bs
+  none_second h = no_second (read_bytes a front) ∙ sym (parts_read ∙ ap (option_zip (read_bytes a front)) (sym h))
+
+  pub some_both : (x : a.Value) (y : b.Value) → Some x ≡ read_bytes a front → Some y ≡ read_bytes b back → Some (x, y) ≡ read_bytes (pair a b) bs
+  some_both x y h k = sym (parts_read ∙ (λ i. option_zip (sym h i) (sym k i)))
+
 -- a pair reads its first part from a front of n levels, and its second from the rest
 pub pair_reads : (a b : Meaning) (n m : ℕ) (bs front back : List ℕ) → n ≡ a.levels → m ≡ b.levels → n + m ≤ 16 → IsSplitAt bs (8 * n) front back → read_bytes (pair a b) bs ≡ option_zip (read_bytes a front) (read_bytes b back)
-pair_reads a b n m bs front back e f few split =
-    let few' : a.levels + b.levels ≤ 16 = omega arith in
-    let room : 8 * a.levels ≤ length bs = omega (arith, split.0) in
-    let front_is : take (8 * a.levels) bs ≡ front = (λ i. take (8 * sym e i) bs) ∙ sym split.1 in
-    let back_is : drop (8 * a.levels) bs ≡ back = (λ i. drop (8 * sym e i) bs) ∙ sym split.2 in
-    reads a b bs few' room ∙ (λ i. option_zip (read_bytes a (front_is i)) (read_bytes b (back_is i)))
+pair_reads a b n m bs front back e f few split = parts_read a b n m bs front back e f few (omega (arith, split.0)) split.1 split.2
 
 -- what a call read, once `?` has told which way it went
 pub told : {K X Y : Type 0} (way : K → Option X) (worth : X → Y) (r : Option X) (f g : K) (v : Option Y) → r ≡ way f → f ≡ g → option_map worth r ≡ v → option_map worth (way g) ≡ v
