@@ -8,7 +8,7 @@ use Rattle.cycle.specs.declared.calls.Call.{Call}
 use Rattle.cycle.specs.States.{State, fresh}
 use Rattle.cycle.specs.Sent.{Sent, Answer, sent, load, revise, limit, withdraw, submit, read, told, told_amount, read_answer}
 use Rattle.cycle.specs.Calls.{after, loaded, changed, submitted, answer_to, next, load_answer, submit_answer}
-use Rattle.history.specs.Histories.{History, in_force, standing, Lawful, Kept}
+use Rattle.history.specs.Histories.{Step, History, in_force, standing, Lawful, Kept}
 use Rattle.history.specs.Replayed.{step, history_of, state_after}
 use Rattle.history.proofs.Kept.{kept_from_lawful}
 
@@ -26,17 +26,34 @@ module _ (m : Meaning) (h : History) where
   after_told call new (Ok u) e = e
   after_told call new (Err refusal) e = refl
 
+  told_step : Sent → Result (Unit {0}) Refusal → Step
+  told_step call r = record { call = call; answer = told r }
+
+  after_load : (bs : List ℕ) (r : Result (Unit {0}) Refusal) → after r (state_after h) (loaded bs) ≡ state_after (record { call = load bs; answer = told r } ∷ h)
+  after_load bs r = after_told (load bs) (loaded bs) r refl
+
+  after_submit : (bs : List ℕ) (r : Result (Unit {0}) Refusal) → after r (state_after h) (submitted (in_force h) bs) ≡ state_after (record { call = submit bs; answer = told r } ∷ h)
+  after_submit bs r = after_told (submit bs) (submitted (in_force h) bs) r refl
+
+  after_revise : (area : ℕ) (demand : _) (r : Result (Unit {0}) Refusal) → after r (state_after h) (changed (revised (in_force h) area demand)) ≡ state_after (record { call = revise area demand; answer = told r } ∷ h)
+  after_revise area demand r = after_told (revise area demand) (changed (revised (in_force h) area demand)) r refl
+
+  after_limit : (border forward backward : ℕ) (r : Result (Unit {0}) Refusal) → after r (state_after h) (changed (limited (in_force h) border forward backward)) ≡ state_after (record { call = limit border forward backward; answer = told r } ∷ h)
+  after_limit border forward backward r = after_told (limit border forward backward) (changed (limited (in_force h) border forward backward)) r refl
+
+  after_withdraw : (bid : ℕ) (r : Result (Unit {0}) Refusal) → after r (state_after h) (changed (withdrawn (in_force h) bid)) ≡ state_after (record { call = withdraw bid; answer = told r } ∷ h)
+  after_withdraw bid r = after_told (withdraw bid) (changed (withdrawn (in_force h) bid)) r refl
+
   after_read : (item : _) (r : Result _ Refusal) → state_after h ≡ state_after (record { call = read item; answer = told_amount r } ∷ h)
   after_read item (Ok x) = refl
   after_read item (Err refusal) = refl
 
   next_is : (call : Sent) → next m (state_after h) call ≡ state_after (record { call = call; answer = answer_to m (state_after h) call } ∷ h)
-  next_is (load bs) = after_told (load bs) (loaded bs) (load_answer m bs) refl
-  next_is (revise area demand) = after_told (revise area demand) (changed (revised (in_force h) area demand)) (revise_answer (in_force h) area demand) refl
-  next_is (limit border forward backward) =
-      after_told (limit border forward backward) (changed (limited (in_force h) border forward backward)) (limit_answer (in_force h) border forward backward) refl
-  next_is (withdraw bid) = after_told (withdraw bid) (changed (withdrawn (in_force h) bid)) (withdraw_answer (in_force h) bid) refl
-  next_is (submit bs) = after_told (submit bs) (submitted (in_force h) bs) (submit_answer m (in_force h) bs) refl
+  next_is (load bs) = after_load bs (load_answer m bs)
+  next_is (revise area demand) = after_revise area demand (revise_answer (in_force h) area demand)
+  next_is (limit border forward backward) = after_limit border forward backward (limit_answer (in_force h) border forward backward)
+  next_is (withdraw bid) = after_withdraw bid (withdraw_answer (in_force h) bid)
+  next_is (submit bs) = after_submit bs (submit_answer m (in_force h) bs)
   next_is (read item) = after_read item (read_answer (in_force h) (standing h) item)
 
 -- after i calls
